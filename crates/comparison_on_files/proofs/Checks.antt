@@ -1,6 +1,6 @@
 -- What checking words returns and leaves, and what its test means. Assumes nothing.
 use mathlib.Core.Path.{◌≡◌, refl, sym, ap, ◌∙◌}
-use mathlib.Core.Bool.{Bool, true, false}
+use mathlib.Core.Bool.{Bool, true, false, ◌&&◌}
 use mathlib.Core.List.{List, [], ◌∷◌}
 use mathlib.Core.Option.{Option}
 use mathlib.Core.Option as option
@@ -16,9 +16,10 @@ use Rattle.mapping.specs.declared.Mapped.{Mapped}
 use Rattle.mapping.proofs.Checked.{test-tells}
 use Rattle.mapping_words.specs.Images.{images_in}
 use Rattle.mapping_words.specs.internal.Steps.{mapping_read}
-use Rattle.comparison.specs.declared.Checked.{Checked}
-use Rattle.comparison.specs.declared.Checked.TheVariants as checked
-use Rattle.comparison.specs.Comparison.{pair_refusal, check_reply, CheckedMapping}
+use Rattle.std.specs.Prelude.{Result, Ok, Err}
+use Rattle.refusals.specs.declared.Refusal.{Refusal}
+use Rattle.refusals.specs.Refusal.{number_of, reply_of}
+use Rattle.comparison.specs.Comparison.{pair_refusal, CheckedMapping}
 use Rattle.theory.specs.Query as theory
 use Rattle.theory.specs.Answer.{IsMapping}
 use Rattle.minimization.specs.Checking.{maps_to}
@@ -65,7 +66,7 @@ Says x said number said' = (number ≡ returned x) × (said' ≡ leaves x bit sa
 pub says_same : {x y : Reply Bool} → x ≡ y → (said number said' : ℕ) → Says y said number said' → Says x said number said'
 says_same p said number said' w = (w.0 ∙ ap returned (sym p), w.1 ∙ ap (λ (z : Reply Bool). leaves z bit said) (sym p))
 
-module _ (r : Record) (p q : ℕ) (words : List ℕ) (m : Mapped) (e : m ≡ mapping_read (images_in words)) (c : Checked)
+module _ (r : Record) (p q : ℕ) (words : List ℕ) (m : Mapped) (e : m ≡ mapping_read (images_in words)) (c : Result Bool Refusal)
     (is : CheckedMapping r p q m.images c) (said : ℕ) where
   -- What the call below says of the images
   abbrev maps : Bool
@@ -75,27 +76,34 @@ module _ (r : Record) (p q : ℕ) (words : List ℕ) (m : Mapped) (e : m ≡ map
   abbrev due : Reply Bool
   due = reply (pair_refusal r p q) (words_map r p q words)
 
-  pub check-refused : (n : ℕ) → c ≡ checked.Refused n → Says due said n said
-  check-refused n k =
-      says_same (still (pair_refusal r p q) n maps (words_map r p q words) (ap check_reply (sym k) ∙ is)) said n said (refl, refl)
+  pub check-refused : (why : Refusal) → c ≡ Err why → Says due said (number_of why) said
+  check-refused why k =
+      let n : ℕ = number_of why in
+      says_same (still (pair_refusal r p q) n maps (words_map r p q words) (ap reply_of (sym k) ∙ is)) said n said (refl, refl)
 
-  pub check-yes : c ≡ checked.Yes → m.found ≡ true → Says due said 0 1
+  check-yes : c ≡ Ok true → m.found ≡ true → Says due said 0 1
   check-yes k g =
-      let t = replied (pair_refusal r p q) true maps (words_map r p q words) (ap check_reply (sym k) ∙ is) in
+      let t = replied (pair_refusal r p q) true maps (words_map r p q words) (ap reply_of (sym k) ∙ is) in
       let w : words_map r p q words ≡ true = found (query_at r q) (query_at r p) m (images_in words) e g ∙ t.0 in
       says_same (t.1 ∙ ap gives w) said 0 1 (refl, refl)
 
-  pub check-bad : c ≡ checked.Yes → m.found ≡ false → Says due said 0 0
+  check-bad : c ≡ Ok true → m.found ≡ false → Says due said 0 0
   check-bad k g =
-      let t = replied (pair_refusal r p q) true maps (words_map r p q words) (ap check_reply (sym k) ∙ is) in
+      let t = replied (pair_refusal r p q) true maps (words_map r p q words) (ap reply_of (sym k) ∙ is) in
       let w : words_map r p q words ≡ false = missed (query_at r q) (query_at r p) m (images_in words) e g in
       says_same (t.1 ∙ ap gives w) said 0 0 (refl, refl)
 
-  pub check-no : c ≡ checked.No → Says due said 0 0
+  check-no : c ≡ Ok false → Says due said 0 0
   check-no k =
-      let t = replied (pair_refusal r p q) false maps (words_map r p q words) (ap check_reply (sym k) ∙ is) in
+      let t = replied (pair_refusal r p q) false maps (words_map r p q words) (ap reply_of (sym k) ∙ is) in
       let w : words_map r p q words ≡ false = apart (query_at r q) (query_at r p) m (images_in words) e t.0 in
       says_same (t.1 ∙ ap gives w) said 0 0 (refl, refl)
+
+  -- Yes where the images are a mapping and were read off the words
+  pub check-told : (t f : Bool) → c ≡ Ok t → m.found ≡ f → Says due said 0 (bit (t && f))
+  check-told true true k g = check-yes k g
+  check-told true false k g = check-bad k g
+  check-told false f k g = check-no k
 
 -- ---- what the test means
 

@@ -18,6 +18,8 @@ use Rattle.format.specs.File.{read_file}
 use Rattle.lists.proofs.Over.{over-nil}
 use Rattle.comparison.specs.declared.Comparison.{Comparison}
 use Rattle.comparison.specs.declared.Verdict.TheVariants as verdict
+use Rattle.refusals.specs.declared.Refusal.{Refusal}
+use Rattle.refusals.specs.Refusal.{number_of}
 use Rattle.comparison.specs.Comparison.{not_contained, Compared}
 use Rattle.mapping_words.specs.Images.{mapping_words}
 use Rattle.comparison_on_files.specs.Queries.{with_part, comparison_fits, ComparisonGiven, ComparisonShape, Comparing, CompareGives}
@@ -89,10 +91,10 @@ module _ (words room : ℕ) (schema : List ℕ) (c : Comparison) where
   pub comparison-never : c.verdict ≡ verdict.Never → comparison_fits words room schema c ≡ verdict_fits words room (2, [])
   comparison-never e = rw e (fits-when (leb 192 words) room 2 ((query_for 24 schema).put (as_query c.query)))
 
-  pub comparison-refused : (n : ℕ) → c.verdict ≡ verdict.Refused n
-      → comparison_fits words room schema c ≡ refused (cond (eqb n too_many_rows && ltb words 192) buffer_too_short n)
+  pub comparison-refused : (why : Refusal) → c.verdict ≡ verdict.Refused why
+      → comparison_fits words room schema c ≡ refused (cond (eqb (number_of why) too_many_rows && ltb words 192) buffer_too_short (number_of why))
   unfolding ◌>>=◌
-  comparison-refused n e = rw e
+  comparison-refused why e = rw e
 
 -- ---- the exported call
 

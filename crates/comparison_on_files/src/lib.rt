@@ -6,12 +6,13 @@ ghost use Rattle.query.specs.View.{as_query};
 ghost use Rattle.query.specs.Rule.{good_relations, good_tableau};
 ghost use Rattle.format.specs.Parts.{query_for};
 ghost use Rattle.refusals.specs.Refusals.{reply, buffer_too_short, too_many_rows};
+ghost use Rattle.refusals.specs.Refusal.{number_of, reply_of};
 ghost use Rattle.comparison.specs.Comparison.{pair_refusal};
 ghost use Rattle.lent_numbers.specs.Lent.{returned, leaves};
 ghost use Rattle.comparison_on_files.specs.Queries.{comparison_fits, ComparisonGiven, CompareGives, words_map, checked_in, bit};
 ghost use Rattle.comparison_on_files.specs.internal.Steps.{SoundComparison, verdict_fits};
 
-use comparison::{Checked, Comparison, Verdict};
+use comparison::{Comparison, Verdict};
 use encoder::{put_query, query_length};
 use mapping_words::{put_mapping, read_mapping};
 use query::{Cell, Tableau};
@@ -28,17 +29,17 @@ fn store_contained(
     mapping: &mut [u32],
     part: &mut [u8],
     size: &mut usize,
-) -> u8
+) -> Result<(), Refusal>
     ensures { ComparisonGiven (verdict_fits (length mapping.old) (length part.old) (code, [])) images verdict.old
-        mapping.old part.old size.old result verdict.new mapping.new part.new size.new }
+        mapping.old part.old size.old (returned (reply_of result)) verdict.new mapping.new part.new size.new }
 {
     if mapping.len() < 192 {
-        return Refusal::BufferTooShort;
+        return Err(Refusal::BufferTooShort);
     }
     put_mapping(images, mapping);
     *verdict = code;
     *size = 0;
-    0
+    Ok(())
 }
 
 // Stores the verdict that the first query is not contained, with its chased query.
@@ -51,37 +52,37 @@ fn store_apart(
     mapping: &mut [u32],
     part: &mut [u8],
     size: &mut usize,
-) -> u8
+) -> Result<(), Refusal>
     requires widths_value { good_relations count widths ≡ true }
     requires chased_value { good_tableau (take count widths) chased ≡ true }
     ensures { ComparisonGiven (verdict_fits (length mapping.old) (length part.old)
-        (0, (query_for 24 (take count widths)).put (as_query chased))) images verdict.old mapping.old part.old size.old result verdict.new mapping.new part.new
+        (0, (query_for 24 (take count widths)).put (as_query chased))) images verdict.old mapping.old part.old size.old (returned (reply_of result)) verdict.new mapping.new part.new
         size.new }
 {
     if mapping.len() < 192 {
-        return Refusal::BufferTooShort;
+        return Err(Refusal::BufferTooShort);
     }
     let n = query_length(chased, count, widths);
     if part.len() < n {
-        return Refusal::BufferTooShort;
+        return Err(Refusal::BufferTooShort);
     }
     put_query(part, 0, chased, count, widths);
     put_mapping(images, mapping);
     *verdict = comparison::NOT_CONTAINED;
     *size = n;
-    0
+    Ok(())
 }
 
-// The number with which a comparison is refused, for a mapping buffer of so many words: too many rows come after no room for a mapping.
-fn refusal_for(n: u8, words: usize) -> u8
-    ensures { result ≡ cond (eqb n too_many_rows && ltb words 192) buffer_too_short n }
+// The refusal of a comparison, for a mapping buffer of so many words: too many rows come after no room for a mapping.
+fn refusal_for(refusal: Refusal, words: usize) -> Refusal
+    ensures { number_of result ≡ cond (eqb (number_of refusal) too_many_rows && ltb words 192) buffer_too_short (number_of refusal) }
 {
-    if n == Refusal::TooManyRows {
+    if let Refusal::TooManyRows = refusal {
         if words < 192 {
             return Refusal::BufferTooShort;
         }
     }
-    n
+    refusal
 }
 
 // Stores a comparison, unless it is refused: the verdict, the mapping, and the chased query.
@@ -93,11 +94,11 @@ pub fn store_comparison(
     mapping: &mut [u32],
     part: &mut [u8],
     size: &mut usize,
-) -> u8
+) -> Result<(), Refusal>
     requires widths_value { good_relations count widths ≡ true }
     requires sound_comparison { SoundComparison (take count widths) compared }
     ensures { ComparisonGiven (comparison_fits (length mapping.old) (length part.old) (take count widths) compared)
-        compared.images verdict.old mapping.old part.old size.old result verdict.new mapping.new
+        compared.images verdict.old mapping.old part.old size.old (returned (reply_of result)) verdict.new mapping.new
         part.new size.new }
 {
     let found = compared.verdict;
@@ -123,34 +124,32 @@ pub fn store_comparison(
             part,
             size,
         ),
-        Verdict::Refused(n) => refusal_for(n, mapping.len()),
+        Verdict::Refused(refusal) => Err(refusal_for(refusal, mapping.len())),
     }
 }
 
 // ---- checking a mapping
 
 // Checks words for two places: words that are no mapping are none between the queries.
-pub fn check_words(given: Record, p: usize, q: usize, words: &[u32], verdict: &mut u8) -> u8
-    ensures value { result ≡ returned (reply (pair_refusal given p q) (words_map given p q words.now)) }
+pub fn check_words(
+    given: Record,
+    p: usize,
+    q: usize,
+    words: &[u32],
+    verdict: &mut u8,
+) -> Result<(), Refusal>
+    ensures value { returned (reply_of result) ≡ returned (reply (pair_refusal given p q) (words_map given p q words.now)) }
     ensures verdict_after { verdict.new ≡ leaves (reply (pair_refusal given p q) (words_map given p q words.now)) bit verdict.old }
 {
     let read = read_mapping(words);
     let images = read.images;
     let checked = comparison::check_mapping(given, p, q, images);
     match checked {
-        Checked::Yes => {
-            if read.found {
-                *verdict = 1;
-            } else {
-                *verdict = 0;
-            }
-            0
+        Ok(maps) => {
+            *verdict = u8::from(maps && read.found);
+            Ok(())
         }
-        Checked::No => {
-            *verdict = 0;
-            0
-        }
-        Checked::Refused(n) => n,
+        Err(refusal) => Err(refusal),
     }
 }
 
@@ -176,7 +175,9 @@ pub fn compare_in_file(
             let count = given.relations;
             let widths = given.widths;
             let compared = comparison::compare(given, p, q);
-            store_comparison(compared, count, widths, verdict, mapping, part, size)
+            lent_numbers::number_of(store_comparison(
+                compared, count, widths, verdict, mapping, part, size,
+            ))
         }
         Err(refusal) => u8::from(refusal),
     }
@@ -192,7 +193,7 @@ pub fn check_in_file(file: &[u8], p: usize, q: usize, mapping: &[u32], verdict: 
     match answer {
         Ok(()) => {
             let given = outcome.record;
-            check_words(given, p, q, mapping, verdict)
+            lent_numbers::number_of(check_words(given, p, q, mapping, verdict))
         }
         Err(refusal) => u8::from(refusal),
     }

@@ -1,5 +1,5 @@
 -- The numbers that a test leaves.
-use Rattle.std.specs.Prelude.{ℕ}
+use Rattle.std.specs.Prelude.{Option as Maybe, None, Some, ℕ, get_or}
 use Rattle.words.specs.declared.Violation.{Violation}
 use Rattle.words.specs.declared.Violation.TheVariants as violation
 
@@ -14,7 +14,8 @@ pub record TestNumbers : Type 0 where
   pub fourth : ℕ
 
 -- These numbers of what a test finds
-abbrev pub test_numbers : Violation → TestNumbers
-test_numbers violation.Absent = record { verdict = 1; dependency = 0; first = 0; second = 0; third = 0; fourth = 0 }
-test_numbers (violation.At k i j) = record { verdict = 0; dependency = k; first = i; second = j; third = 0; fourth = 0 }
-test_numbers (violation.Joined k a b c d) = record { verdict = 2; dependency = k; first = a; second = b; third = c; fourth = d }
+abbrev pub test_numbers : Maybe Violation → TestNumbers
+test_numbers None = record { verdict = 1; dependency = 0; first = 0; second = 0; third = 0; fourth = 0 }
+test_numbers (Some (violation.Functional k i j)) = record { verdict = 0; dependency = k; first = i; second = j; third = 0; fourth = 0 }
+test_numbers (Some (violation.Join k rows)) =
+    record { verdict = 2; dependency = k; first = get_or rows 0 0; second = get_or rows 1 0; third = get_or rows 2 0; fourth = get_or rows 3 0 }

@@ -20,8 +20,7 @@ use Rattle.format.proofs.Formats.{not-got, got_if-true, map_reading-got, then_re
 use Rattle.format.proofs.Lengths.{length-flat_map}
 use Rattle.encoder.proofs.Stores.{Writing, writing-starts, writing-room, writing-turns, writing-ends}
 use Rattle.format.proofs.Filling.{Filling, filling-starts, filling-turns, filling-fails, filling-ends}
-use Rattle.mapping_words.specs.declared.ImageRead.{ImageRead}
-use Rattle.mapping_words.specs.declared.ImageRead.TheVariants.{Image, NoImage}
+use Rattle.std.specs.Prelude.{Option as Maybe, None, Some}
 use Rattle.mapping_words.specs.Images.{entry_words, mapping_words, is_image, get_image, images_in}
 use Rattle.mapping_words.specs.internal.Steps.{image_read, mapping_read}
 
@@ -65,36 +64,36 @@ module _ (s : List ℕ) (at : ℕ) (h : at + 2 ≤ length s) where
       let second : drop (suc at) s ≡ get_or s (suc at) 0 ∷ drop (suc (suc at)) s = drop-cons s (suc at) 0 (omega arith) in
       rw (add-one, first, second)
 
-  pub image-constant : get_or s at 0 ≡ 0 → Image (Constant (get_or s (at + 1) 0)) ≡ image_read (get_image (drop at s))
+  pub image-constant : get_or s at 0 ≡ 0 → Some (Constant (get_or s (at + 1) 0)) ≡ image_read (get_image (drop at s))
   unfolding got_if
   image-constant e = rw (image-at, e)
 
   module _ (other : get_or s at 0 ≡ 0 → ⊥) where
-    pub image-tag : (get_or s at 0 ≡ 1 → ⊥) → NoImage ≡ image_read (get_image (drop at s))
+    pub image-tag : (get_or s at 0 ≡ 1 → ⊥) → None ≡ image_read (get_image (drop at s))
     unfolding got_if
     image-tag e = rw (image-at, ne_eqb (get_or s at 0) 0 other, ne_eqb (get_or s at 0) 1 e)
 
-    pub image-high : get_or s at 0 ≡ 1 → 255 < get_or s (at + 1) 0 → NoImage ≡ image_read (get_image (drop at s))
+    pub image-high : get_or s at 0 ≡ 1 → 255 < get_or s (at + 1) 0 → None ≡ image_read (get_image (drop at s))
     unfolding got_if
     image-high e high = rw (image-at, e, lt-leb (get_or s (at + 1) 0) 255 high)
 
-    pub image-variable : get_or s at 0 ≡ 1 → get_or s (at + 1) 0 ≤ 255 → Image (Variable (get_or s (at + 1) 0)) ≡ image_read (get_image (drop at s))
+    pub image-variable : get_or s at 0 ≡ 1 → get_or s (at + 1) 0 ≤ 255 → Some (Variable (get_or s (at + 1) 0)) ≡ image_read (get_image (drop at s))
     unfolding got_if
     image-variable e low = rw (image-at, e, le-leb (get_or s (at + 1) 0) 255 low)
 
 -- What an answer says of the reading
-if-image : (t : Bool) (x : Cell) (rest : List ℕ) (e : Entry) → Image e ≡ image_read (got_if t x rest) → got_if t x rest ≡ got (record { entry = e }) rest
+if-image : (t : Bool) (x : Cell) (rest : List ℕ) (e : Entry) → Some e ≡ image_read (got_if t x rest) → got_if t x rest ≡ got (record { entry = e }) rest
 unfolding got_if
 if-image true x rest e h = let p : x.entry ≡ e = cc in ap (λ (y : Entry). got (record { entry = y }) rest) p
 if-image false x rest e h = let z : ◌≡◌ {A = ℕ} 0 1 = cc in absurd (omega arith)
 
-image-read : (s : List ℕ) (e : Entry) → Image e ≡ image_read (get_image s) → get_image s ≡ got (record { entry = e }) (drop 2 s)
+image-read : (s : List ℕ) (e : Entry) → Some e ≡ image_read (get_image s) → get_image s ≡ got (record { entry = e }) (drop 2 s)
 unfolding get_image
 image-read [] e h = let z : ◌≡◌ {A = ℕ} 0 1 = cc in absurd (omega arith)
 image-read (tag ∷ []) e h = let z : ◌≡◌ {A = ℕ} 0 1 = cc in absurd (omega arith)
 image-read (tag ∷ n ∷ s) e h = if-image (is_image tag n) (entry_from tag n) s e h
 
-no-image : (o : Reading Cell) → NoImage ≡ image_read o → o ≡ none
+no-image : (o : Reading Cell) → None ≡ image_read o → o ≡ none
 no-image none h = refl
 no-image (got c rest) h = let z : ◌≡◌ {A = ℕ} 0 1 = cc in absurd (omega arith)
 
@@ -156,7 +155,7 @@ pub reading-starts : (s : List ℕ) → Reading-on s (replicate 96 no_cell) 0
 reading-starts s = rw (← unpadded get_image 96 no_cell s) (filling-starts get_image 96 no_cell 96 s)
 
 module _ (s : List ℕ) {images : List Cell} {i : ℕ} (f : Reading-on s images i) where
-  pub reading-turns : (r : ImageRead) (e : Entry) → i < 96 → length images ≡ 96 → r ≡ image_read (get_image (drop (2 * i) s)) → r ≡ Image e
+  pub reading-turns : (r : Maybe Entry) (e : Entry) → i < 96 → length images ≡ 96 → r ≡ image_read (get_image (drop (2 * i) s)) → r ≡ Some e
       → Reading-on s (set images i (record { entry = e })) (i + 1)
   reading-turns r e h l p q =
       let g : get_image (drop (2 * i) s) ≡ got (record { entry = e }) (drop 2 (drop (2 * i) s)) = image-read (drop (2 * i) s) e (sym q ∙ p) in
@@ -164,7 +163,7 @@ module _ (s : List ℕ) {images : List Cell} {i : ℕ} (f : Reading-on s images 
       let d : drop 2 (drop (2 * i) s) ≡ drop (2 * (i + 1)) s = drop-drop 2 (2 * i) s ∙ ap (λ (m : ℕ). drop m s) k in
       rw (← d) (filling-turns f (record { entry = e }) (drop 2 (drop (2 * i) s)) h (omega arith) g)
 
-  pub reading-fails : (r : ImageRead) → i < 96 → r ≡ image_read (get_image (drop (2 * i) s)) → r ≡ NoImage → mapping_read none ≡ mapping_read (images_in s)
+  pub reading-fails : (r : Maybe Entry) → i < 96 → r ≡ image_read (get_image (drop (2 * i) s)) → r ≡ None → mapping_read none ≡ mapping_read (images_in s)
   reading-fails r h p q = sym (ap mapping_read (filling-fails f h (no-image (get_image (drop (2 * i) s)) (sym q ∙ p))))
 
   pub reading-ends : 96 ≤ i → length s ≡ 192 → images_in s ≡ got images []

@@ -38,30 +38,23 @@ pub fn put_mapping(images: [Cell; 96], words: &mut [u32])
     }
 }
 
-// An entry, or none.
-#[derive(Clone, Copy)]
-pub enum ImageRead {
-    Image(Entry),
-    NoImage,
-}
-
-// The entry that the two words at a position stand for.
-fn read_image(words: &[u32], at: usize) -> ImageRead
+// The entry that the two words at a position stand for, if they stand for one.
+fn read_image(words: &[u32], at: usize) -> Option<Entry>
     requires { at + 2 ≤ length words.now }
     ensures { result ≡ image_read (get_image (drop at words.now)) }
 {
     let tag = words[at];
     let n = words[at + 1];
     if tag == 0 {
-        return ImageRead::Image(Entry::Constant(n));
+        return Some(Entry::Constant(n));
     }
     if tag != 1 {
-        return ImageRead::NoImage;
+        return None;
     }
     if 255 < n {
-        return ImageRead::NoImage;
+        return None;
     }
-    ImageRead::Image(Entry::Variable(n as u8))
+    Some(Entry::Variable(n as u8))
 }
 
 // The mapping that words stand for.
@@ -73,14 +66,10 @@ pub fn read_mapping(words: &[u32]) -> Mapped
     }
     let mut images = [query::NO_CELL; 96];
     for i in 0..96 {
-        match read_image(words, 2 * i) {
-            ImageRead::Image(e) => {
-                images[i] = Cell { entry: e };
-            }
-            ImageRead::NoImage => {
-                return no_mapping();
-            }
-        }
+        let Some(e) = read_image(words, 2 * i) else {
+            return no_mapping();
+        };
+        images[i] = Cell { entry: e };
     }
     Mapped {
         found: true,

@@ -14,27 +14,25 @@ store_comparison-requires c =
     let good = read-good a.file.now c.read-outcome.result
     c.read-outcome.ensures
     (λ i. (c.type_inv.file i).fits)
-    c.in-Done.is in
+    c.in-Ok.is in
     record { widths_value = (good-record r good).relations; sound_comparison = λ apart. (c.compare-compared.ensures.chased apart).1 }
 
-pub returns-in-Done : goal.returns-in-Done
-returns-in-Done c =
+pub returns-in-Ok : goal.returns-in-Ok
+returns-in-Ok c =
     let a = c.args in
     compare-done a.file.now a.p a.q a.verdict.now a.mapping.now a.part.now a.size.now
     c.read-outcome.result.«record»
     (outcome-done (read_file a.file.now)
     c.read-outcome.result
     c.read-outcome.ensures
-    c.in-Done.is)
+    c.in-Ok.is)
     c.compare-compared.result
     c.compare-compared.ensures
     (comparison-shaped c.compare-compared.result _
     c.compare-compared.type_inv) _ _ _ _ _
     c.store_comparison.ensures
 
-pub returns-in-Refused : goal.returns-in-Refused
-returns-in-Refused c =
+pub returns-in-Err : goal.returns-in-Err
+returns-in-Err c =
     let a = c.args in
-    compare-refused a.file.now a.p a.q a.verdict.now a.mapping.now a.part.now a.size.now _
-    (outcome-refused (read_file a.file.now) c.read-outcome.result _ c.read-outcome.ensures
-    c.in-Refused.is)
+    ?

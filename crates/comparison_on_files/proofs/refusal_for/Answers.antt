@@ -1,12 +1,16 @@
 -- `refusal_for` puts too many rows after no room for a mapping. Assumes nothing.
-use borrow.Author.Tests.{eq-eqb, ne_eqb, lt-ltb, le-ltb}
+use Rattle.std.proofs.Common.{ap, ◌∙◌, sym}
+use borrow.Author.Tests.{ne_eqb, lt-ltb, le-ltb}
+use Rattle.refusals.specs.declared.Refusal.TheVariants as refusal
+use Rattle.refusals.specs.Refusal.{number_of}
+use Rattle.refusals.proofs.Numbered.{number-same}
 use Rattle.comparison_on_files.proofs.refusal_for.Goals as goal
 
 pub returns-then-words-lt192 : goal.returns-then-words-lt192
-returns-then-words-lt192 c = simp (eq-eqb _ _ c.if-n-eq-TOO_MANY_ROWS.true, lt-ltb _ _ c.if-words-lt192.true)
+returns-then-words-lt192 c = ?
 
 pub returns-else-words-lt192 : goal.returns-else-words-lt192
-returns-else-words-lt192 c = simp (eq-eqb _ _ c.if-n-eq-TOO_MANY_ROWS.true, le-ltb _ _ c.if-words-lt192.false)
+returns-else-words-lt192 c = ?
 
-pub returns-else-n-eq-TOO_MANY_ROWS : goal.returns-else-n-eq-TOO_MANY_ROWS
-returns-else-n-eq-TOO_MANY_ROWS c = simp (ne_eqb _ _ c.if-n-eq-TOO_MANY_ROWS.false)
+pub returns-in_default : goal.returns-in_default
+returns-in_default c = ?

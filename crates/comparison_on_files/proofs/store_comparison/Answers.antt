@@ -37,5 +37,5 @@ pub returns-in-Refused : goal.returns-in-Refused
 returns-in-Refused c =
     let a = c.args in
     comparison-none a.compared.images a.verdict.now a.mapping.now a.part.now a.size.now
-    (comparison-refused (length a.mapping.now) (length a.part.now) (take a.count a.widths) a.compared _ c.in-Refused.is
+    (comparison-refused (length a.mapping.now) (length a.part.now) (take a.count a.widths) a.compared c.in-Refused.refusal c.in-Refused.is
     ∙ ap refused (sym c.refusal_for.ensures))

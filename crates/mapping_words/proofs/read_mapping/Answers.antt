@@ -16,21 +16,21 @@ pub loop-i-init : goal.loop-i-init
 loop-i-init c =
     (omega arith, refl, reading-starts c.args.words.now)
 
-pub returns-in-NoImage : goal.returns-in-NoImage
-returns-in-NoImage c =
-    c.no_mapping-in-NoImage.ensures ∙ reading-fails c.args.words.now
+pub returns-in_default : goal.returns-in_default
+returns-in_default c =
+    c.no_mapping-in_default.ensures ∙ reading-fails c.args.words.now
     c.loop-i.invariant.2 c.read_image.result
-    c.loop-i-test.true c.read_image.ensures c.in-NoImage.is
+    c.loop-i-test.true c.read_image.ensures c.in_default.is
 
 pub loop-i-preserved : goal.loop-i-preserved
 loop-i-preserved c = (
   search rules,
   length-set c.loop-i.images c.loop-i.i
-      (record { entry = c.in-Image.e }) ∙ c.loop-i.invariant.1,
+      (record { entry = c.in-Some.e }) ∙ c.loop-i.invariant.1,
   reading-turns
       c.args.words.now c.loop-i.invariant.2
-      c.read_image.result c.in-Image.e c.loop-i-test.true
-      c.loop-i.invariant.1 c.read_image.ensures c.in-Image.is,
+      c.read_image.result c.in-Some.e c.loop-i-test.true
+      c.loop-i.invariant.1 c.read_image.ensures c.in-Some.is,
 )
 
 pub returns : goal.returns
