@@ -10,7 +10,7 @@ use native.Mathlib.Omega.{arith}
 use Rattle.record.specs.declared.Record.{Record}
 use Rattle.record.specs.Calls.{outcome_reply, is_filled, query_at}
 use Rattle.refusals.specs.declared.Refusal.{Refusal}
-use Rattle.refusals.specs.Refusal.{number_of, reply_of}
+use Rattle.refusals.specs.Refusal.{reply_of}
 use Rattle.comparison.specs.declared.Comparison.{Comparison}
 use Rattle.comparison.specs.declared.Verdict.{Verdict}
 use Rattle.comparison.specs.declared.Verdict.TheVariants.{Never, Mapped, Apart, Refused}
@@ -26,7 +26,7 @@ use Rattle.admission.proofs.Admitted.{none-asked}
 use Rattle.database.proofs.Meaning.{place-ascending, place-answers}
 use Rattle.minimization.specs.Search as search
 use Rattle.record.specs.declared.Outcome.{Outcome}
-use Rattle.std.specs.Prelude.{Result, Ok, Err}
+use Rattle.std.specs.Prelude.{Result, Err}
 use Rattle.format.specs.Bytes.{Bytes}
 use Rattle.format.specs.File.{read_file, read_outcome, file_of, shaped}
 use Rattle.writer.specs.Write.{written, after_writing}

@@ -89,7 +89,12 @@ pub fn test(given: Record, words: &[u32]) -> Result<Option<Violation>, Refusal>
 }
 
 // The same in lent tables, which a refused test leaves as they were.
-pub fn test_lent(given: Record, words: &[u32], heads: &mut [u32], nodes: &mut [u32]) -> Result<Option<Violation>, Refusal>
+pub fn test_lent(
+    given: Record,
+    words: &[u32],
+    heads: &mut [u32],
+    nodes: &mut [u32],
+) -> Result<Option<Violation>, Refusal>
     ensures test_meets { TestMeets given words.now result }
     ensures unused_if_refused { UnusedIfRefused (test_conditions given words.now) heads.old heads.new }
     ensures unused_if_refused_2 { UnusedIfRefused (test_conditions given words.now) nodes.old nodes.new }
@@ -98,7 +103,12 @@ pub fn test_lent(given: Record, words: &[u32], heads: &mut [u32], nodes: &mut [u
 }
 
 // Evaluates the query of a place on a database.
-pub fn evaluate(given: Record, place: usize, words: &[u32], buffer: &mut [u32]) -> Result<usize, Refusal>
+pub fn evaluate(
+    given: Record,
+    place: usize,
+    words: &[u32],
+    buffer: &mut [u32],
+) -> Result<usize, Refusal>
     ensures { EvaluateMeets given place words.now buffer.old buffer.new result }
 {
     database::evaluate(given, place, words, buffer)

@@ -13,7 +13,12 @@ pub fn compare(given: Record, p: usize, q: usize) -> Comparison
 }
 
 // The answers are those of conjunctive queries over finite tables, ascending, each once.
-pub fn evaluate(given: Record, place: usize, words: &[u32], buffer: &mut [u32]) -> Result<usize, Refusal>
+pub fn evaluate(
+    given: Record,
+    place: usize,
+    words: &[u32],
+    buffer: &mut [u32],
+) -> Result<usize, Refusal>
     ensures { Evaluates given place words.now buffer.old buffer.new result }
 {
     database::evaluate(given, place, words, buffer)

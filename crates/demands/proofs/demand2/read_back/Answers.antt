@@ -1,7 +1,7 @@
 -- `demands::demand2::read_back` meets its contract. Assumes nothing.
 use mathlib.Core.Path.{sym, ap, ◌∙◌}
 use lib.Seq.{length-take-le}
-use Rattle.std.specs.Prelude.{Ok, Err}
+use Rattle.std.specs.Prelude.{Err}
 use Rattle.refusals.specs.Refusal.{reply_of}
 use Rattle.file.proofs.Shapes.{record-shaped}
 use Rattle.demands.proofs.Answering.{read_again, not_written, inside}
