@@ -9,6 +9,7 @@ use lib.ListN.{length, take, drop, take-append-drop, get_or-eq_default}
 use native.Mathlib.Omega.{arith}
 use Rattle.record.specs.declared.Record.{Record}
 use Rattle.record.specs.Calls.{outcome_reply, is_filled, query_at}
+use Rattle.refusals.specs.declared.Refusal.{Refusal}
 use Rattle.refusals.specs.Refusal.{reply_of}
 use Rattle.comparison.specs.declared.Comparison.{Comparison}
 use Rattle.comparison.specs.declared.Verdict.{Verdict}
@@ -20,18 +21,15 @@ use Rattle.query.specs.declared.Place.{Place}
 use Rattle.query.specs.Rule.{no_place}
 use Rattle.lists.proofs.Tests.{below-or-past}
 use Rattle.passes.specs.Evaluated.{answer_words}
-use Rattle.replies.specs.declared.Answered.{Answered}
-use Rattle.replies.specs.Replies.{count_reply}
 use Rattle.database.specs.Calls.{too_long, evaluation_refusal, place_answers, evaluated, buffer_then}
 use Rattle.admission.proofs.Admitted.{none-asked}
 use Rattle.database.proofs.Meaning.{place-ascending, place-answers}
 use Rattle.minimization.specs.Search as search
 use Rattle.record.specs.declared.Outcome.{Outcome}
-use Rattle.std.specs.Prelude.{Ok, Err}
+use Rattle.std.specs.Prelude.{Result, Err}
 use Rattle.format.specs.Bytes.{Bytes}
 use Rattle.format.specs.File.{read_file, read_outcome, file_of, shaped}
-use Rattle.writer.specs.declared.Written.{Written}
-use Rattle.writer.specs.Write.{length_reply, written, after_writing}
+use Rattle.writer.specs.Write.{written, after_writing}
 use Rattle.file.proofs.RoundTrip.{written_back, read_back}
 use Rattle.writer.proofs.Writing.{fits-written, written-fits}
 use Rattle.lists.proofs.Over.{over-length}
@@ -39,23 +37,23 @@ use Rattle.demands.specs.Demand2.{Decides, Evaluates, FileComesBack, RecordComes
 use native.Mathlib.Nat.{zero-add}
 
 -- A verdict that is not a refusal and does not say contained is Apart
-apart-else : (v : Verdict) → ((n : ℕ) → v ≡ Err n → ⊥) → (SaysContained v → ⊥) → v ≡ Apart
+apart-else : (v : Verdict) → ((why : Refusal) → v ≡ Refused why → ⊥) → (SaysContained v → ⊥) → v ≡ Apart
 apart-else Never clear not = absurd (not tt)
 apart-else Mapped clear not = absurd (not tt)
 apart-else Apart clear not = refl
-apart-else (Err n) clear not = absurd (clear n refl)
+apart-else (Refused why) clear not = absurd (clear why refl)
 
 -- Nor is it any other
-says-else : (v : Verdict) → ((n : ℕ) → v ≡ Err n → ⊥) → (v ≡ Apart → ⊥) → SaysContained v
+says-else : (v : Verdict) → ((why : Refusal) → v ≡ Refused why → ⊥) → (v ≡ Apart → ⊥) → SaysContained v
 says-else Never clear not = tt
 says-else Mapped clear not = tt
 says-else Apart clear not = absurd (not refl)
-says-else (Err n) clear not = absurd (clear n refl)
+says-else (Refused why) clear not = absurd (clear why refl)
 
 module _ (r : Record) (p q : ℕ) (c : Comparison) (compared : Compared r p q c) where
   -- A verdict on places that are not refused is no refusal
-  not-refused : comparison_refusal r p q ≡ none → (n : ℕ) → c.verdict ≡ Err n → ⊥
-  not-refused accepted n e =
+  not-refused : comparison_refusal r p q ≡ none → (why : Refusal) → c.verdict ≡ Refused why → ⊥
+  not-refused accepted why e =
       refused-gives
       (sym (ap verdict_reply e) ∙ compared.verdict
       ∙ ap (λ (o : Option ℕ). reply o (verdict_on (chased_at r p).rows (search.mappable (query_at r q) (chased_at r p)))) accepted)
@@ -83,8 +81,8 @@ filled-inside r place e = ⊎_elim (λ h. h) past (below-or-past place (length r
         let blank : is_filled r place ≡ false = ap (λ (p : Place). p.filled) (get_or-eq_default r.places no_place {n = place} h) in
         absurd (true-false (sym e ∙ blank))
 
-pub evaluates : (r : Record) (place : ℕ) (words before after : List ℕ) (a : Answered)
-    → count_reply a ≡ evaluated r place words (length before) → after ≡ buffer_then r place words before → Evaluates r place words before after a
+pub evaluates : (r : Record) (place : ℕ) (words before after : List ℕ) (a : Result ℕ Refusal)
+    → reply_of a ≡ evaluated r place words (length before) → after ≡ buffer_then r place words before → Evaluates r place words before after a
 unfolding evaluated buffer_then evaluation_refusal
 evaluates r place words before after a is-a is-after =
     let n = length (place_answers r place words) in
@@ -102,7 +100,7 @@ evaluates r place words before after a is-a is-after =
 
 module _ (file before after : List ℕ) (o : Outcome) (is : outcome_reply o ≡ read_outcome (read_file file)) where
   -- A file whose record is written back
-  pub written-again : (w : Written) → Bytes file → length_reply w ≡ written o.«record» before → after ≡ after_writing o.«record» before
+  pub written-again : (w : Result ℕ Refusal) → Bytes file → reply_of w ≡ written o.«record» before → after ≡ after_writing o.«record» before
       → FileComesBack file before after w
   written-again w bytes says left r reads room =
       let same : o.«record» ≡ r = ap (λ (x : Reply (Unit {0}) × Record). x.1) (is ∙ reads) in
@@ -116,8 +114,8 @@ module _ (file before after : List ℕ) (o : Outcome) (is : outcome_reply o ≡ 
       )
 
   -- A file that is refused
-  pub not-read : (w : Written) (n : ℕ) → o.answer ≡ Err n → FileComesBack file before after w
-  not-read w n says r reads room =
+  pub not-read : (w : Result ℕ Refusal) (why : Refusal) → o.answer ≡ Err why → FileComesBack file before after w
+  not-read w why says r reads room =
       absurd (refused-gives (sym (ap reply_of says) ∙ ap (λ (x : Reply (Unit {0}) × Record). x.0) (is ∙ reads)))
 
 module _ (r : Record) (before after : List ℕ) (o : Outcome) where

@@ -4,7 +4,8 @@ use mathlib.Core.List.{List, [], ◌∷◌, map, flatten, append-nil}
 use mathlib.Core.Option.{Option, none, some}
 use Prim.Native.Nat.{ℕ, ◌-◌}
 use lib.ListN.{length, drop, replicate}
-use mathlib.Core.Bool.{true}
+use mathlib.Core.Bool.{Bool, true}
+use Rattle.std.specs.Prelude.{Option as Maybe, Result}
 use native.Mathlib.Omega.{arith}
 use Rattle.refusals.proofs.Refusals.{refused-gives, refusal-reply}
 use Rattle.lists.specs.Tests.{every}
@@ -18,19 +19,17 @@ use Rattle.record.specs.declared.Record.{Record}
 use Rattle.record.specs.declared.Outcome.{Outcome}
 use Rattle.record_calls.specs.declared.Columns.{Columns}
 use Rattle.record.specs.Calls.{outcome_reply, query_at}
+use Rattle.refusals.specs.declared.Refusal.{Refusal}
 use Rattle.refusals.specs.Refusal.{reply_of}
 use Rattle.record.specs.Calls.{concluded, add_dependency, add_join, put_query}
 use Rattle.record_calls.specs.Calls.{columns_reply, open_record, drop_query, determined_columns, blank_record}
 use Rattle.comparison.specs.declared.Comparison.{Comparison}
 use Rattle.comparison.specs.declared.Verdict.{Verdict}
 use Rattle.comparison.specs.declared.Verdict.TheVariants as verdict
-use Rattle.comparison.specs.declared.Checked.{Checked}
-use Rattle.comparison.specs.Comparison.{pair_refusal, comparison_refusal, verdict_reply, verdict_on, chased_at, Compared, check_reply, CheckedMapping}
+use Rattle.comparison.specs.Comparison.{pair_refusal, comparison_refusal, verdict_reply, verdict_on, chased_at, Compared, CheckedMapping}
 use Rattle.reduction.specs.declared.Reduced.{Reduced}
 use Rattle.reduction.specs.Reduced.{reduction_refusal, reduction_conditions, IsReduced}
-use Rattle.replies.specs.declared.Conformance.{Conformance}
-use Rattle.replies.specs.declared.Answered.{Answered}
-use Rattle.replies.specs.Replies.{test_reply, count_reply}
+use Rattle.words.specs.declared.Violation.{Violation}
 use Rattle.database.specs.Calls.{tested, evaluation_refusal, evaluated, buffer_then, counted, place_answers}
 use Rattle.passes.specs.Evaluated.{answer_words}
 use Rattle.minimization.specs.Search as search
@@ -39,8 +38,7 @@ use Rattle.format.specs.File.{stretches, read_file, read_outcome, file_of}
 use Rattle.format.specs.Faults.{part_at, schema_in, place_conditions, read_conditions}
 use Rattle.format.proofs.Faults.{first-fault}
 use Rattle.format.proofs.Stretches.{length-stretches}
-use Rattle.writer.specs.declared.Written.{Written}
-use Rattle.writer.specs.Write.{length_reply, writing_refusal, written, after_writing}
+use Rattle.writer.specs.Write.{writing_refusal, written, after_writing}
 use Rattle.demands.specs.Demand1.{Meets, NothingToKeep, read_asks}
 use Rattle.demands.specs.Demand1Calls.{OpenMeets, AddMeets, AddJoinMeets, PutMeets, DropMeets, DeterminedMeets, CompareMeets, CheckMeets}
 use Rattle.demands.specs.Demand1Calls.{ReduceMeets, TestMeets, EvaluateMeets, CountMeets, ReadMeets, WriteMeets}
@@ -105,7 +103,7 @@ reply-meets {A = A} conditions numbers asks ordered said value e =
     meets conditions _ _ _ (ap refusal_in e ∙ refusal-reply (first_holding conditions) value) (λ n f. tt)
     (λ f. e ∙ ap (λ (y : Option ℕ). reply y value) f) numbers asks ordered
 
-pub determined-meets : (r : Record) (relation left : ℕ) (c : Columns) → columns_reply c ≡ determined_columns r relation left → DeterminedMeets r relation left c
+pub determined-meets : (r : Record) (relation left : ℕ) (c : Result Columns Refusal) → columns_reply c ≡ determined_columns r relation left → DeterminedMeets r relation left c
 unfolding determined_columns follows
 determined-meets r relation left c e = reply-meets _ _ refl refl (columns_reply c) _ e
 
@@ -129,9 +127,9 @@ compare-meets r p q c compared =
     on : ℕ
     on = verdict_on (chased_at r p).rows (search.mappable (query_at r q) (chased_at r p))
 
-pub check-meets : (r : Record) (p q : ℕ) (images : List Cell) (c : Checked) → CheckedMapping r p q images c → CheckMeets r p q images c
+pub check-meets : (r : Record) (p q : ℕ) (images : List Cell) (c : Result Bool Refusal) → CheckedMapping r p q images c → CheckMeets r p q images c
 unfolding pair_refusal follows
-check-meets r p q images c e = reply-meets _ _ refl refl (check_reply c) _ e
+check-meets r p q images c e = reply-meets _ _ refl refl (reply_of c) _ e
 
 -- What a reduction gives
 abbrev Given : Type 0
@@ -150,12 +148,12 @@ reduce-meets r source target o is =
 
 -- ---- databases
 
-pub test-meets : (r : Record) (words : List ℕ) (v : Conformance) → test_reply v ≡ tested r words → TestMeets r words v
+pub test-meets : (r : Record) (words : List ℕ) (v : Result (Maybe Violation) Refusal) → reply_of v ≡ tested r words → TestMeets r words v
 unfolding tested follows
-test-meets r words v e = reply-meets _ _ refl refl (test_reply v) _ e
+test-meets r words v e = reply-meets _ _ refl refl (reply_of v) _ e
 
-pub evaluate-meets : (r : Record) (place : ℕ) (words before after : List ℕ) (a : Answered)
-    → count_reply a ≡ evaluated r place words (length before) → after ≡ buffer_then r place words before → EvaluateMeets r place words before after a
+pub evaluate-meets : (r : Record) (place : ℕ) (words before after : List ℕ) (a : Result ℕ Refusal)
+    → reply_of a ≡ evaluated r place words (length before) → after ≡ buffer_then r place words before → EvaluateMeets r place words before after a
 unfolding evaluated buffer_then evaluation_refusal follows
 evaluate-meets r place words before after a is-a is-after =
     let found = answer_words (place_answers r place words) in
@@ -164,13 +162,13 @@ evaluate-meets r place words before after a is-a is-after =
     (λ f.
     (is-a ∙ ap (λ (y : Option ℕ). reply y (length (place_answers r place words))) f, is-after ∙ ap (λ (y : Option ℕ). over_unless y found before) f)) _ refl refl
 
-pub count_meets : (r : Record) (place : ℕ) (words : List ℕ) (a : Answered) → count_reply a ≡ counted r place words → CountMeets r place words a
+pub count_meets : (r : Record) (place : ℕ) (words : List ℕ) (a : Result ℕ Refusal) → reply_of a ≡ counted r place words → CountMeets r place words a
 unfolding evaluated evaluation_refusal follows
-count_meets r place words a e = reply-meets _ _ refl refl (count_reply a) _ e
+count_meets r place words a e = reply-meets _ _ refl refl (reply_of a) _ e
 
 -- ---- files
 
-pub write_meets : (r : Record) (before after : List ℕ) (w : Written) → length_reply w ≡ written r before → after ≡ after_writing r before
+pub write_meets : (r : Record) (before after : List ℕ) (w : Result ℕ Refusal) → reply_of w ≡ written r before → after ≡ after_writing r before
     → WriteMeets r before after w
 unfolding written after_writing writing_refusal follows
 write_meets r before after w is-w is-after =

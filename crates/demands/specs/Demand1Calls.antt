@@ -1,6 +1,6 @@
 -- Demand 1 for each public call: what it asks, what a refusal hands back, and what is due. `Meets` and the numbers are in `Demand1`. Lent working memory is as it
 -- was after a refusal, unless that is 10: the contracts in src/ say so of each call that is lent some.
-use Rattle.std.specs.Prelude.{◌≡◌, List, [], ◌∷◌, ◌++◌, ℕ, ◌-◌, length, replicate}
+use Rattle.std.specs.Prelude.{Option as Maybe, Result, ◌≡◌, Bool, List, [], ◌∷◌, ◌++◌, ℕ, ◌-◌, length, replicate}
 use Rattle.refusals.specs.Refusals.{gives, refusal_in}
 use Rattle.query.specs.declared.Cell.{Cell}
 use Rattle.query.specs.declared.Dependency.{Dependency}
@@ -14,18 +14,16 @@ use Rattle.record_calls.specs.declared.Columns.{Columns}
 use Rattle.record.specs.View.{schema_of, dependencies_of, joins_of}
 use Rattle.record_calls.specs.Calls.{blank_record, empty_record, columns_reply, determined_at, open_conditions, drop_conditions, determined_conditions}
 use Rattle.record.specs.Calls.{with_place, query_at}
+use Rattle.refusals.specs.declared.Refusal.{Refusal}
 use Rattle.refusals.specs.Refusal.{reply_of}
 use Rattle.record.specs.Calls.{with_dependency, with_join}
 use Rattle.record.specs.Calls.{add_conditions, add_join_conditions, put_conditions}
 use Rattle.comparison.specs.declared.Comparison.{Comparison}
-use Rattle.comparison.specs.declared.Checked.{Checked}
-use Rattle.comparison.specs.Comparison.{pair_conditions, comparison_conditions, verdict_reply, Compared, check_reply}
+use Rattle.comparison.specs.Comparison.{pair_conditions, comparison_conditions, verdict_reply, Compared}
 use Rattle.reduction.specs.declared.Reduced.{Reduced}
 use Rattle.reduction.specs.Reduced.{reduction_conditions, IsReduced}
-use Rattle.replies.specs.declared.Conformance.{Conformance}
-use Rattle.replies.specs.declared.Answered.{Answered}
+use Rattle.words.specs.declared.Violation.{Violation}
 use Rattle.admission.specs.Conditions.{test_conditions}
-use Rattle.replies.specs.Replies.{test_reply, count_reply}
 use Rattle.database.specs.Calls.{evaluation_conditions, place_answers, longest_buffer}
 use Rattle.words.specs.Words.{database_of}
 use Rattle.join_testing.specs.Unmet.{violation_in}
@@ -33,8 +31,7 @@ use Rattle.passes.specs.Evaluated.{answer_words}
 use Rattle.lists.specs.Over.{over}
 use Rattle.format.specs.File.{read_file, file_of}
 use Rattle.format.specs.Faults.{read_conditions}
-use Rattle.writer.specs.declared.Written.{Written}
-use Rattle.writer.specs.Write.{length_reply, write_conditions}
+use Rattle.writer.specs.Write.{write_conditions}
 use Rattle.minimization.specs.Checking.{maps_to}
 use Rattle.demands.specs.Demand1.{Meets, NothingToKeep, open_asks, add_asks, add_join_asks, put_asks, drop_asks, determined_asks, pair_asks, compare_asks, reduce_asks}
 use Rattle.demands.specs.Demand1.{test_asks, evaluate_asks, write_asks, read_asks}
@@ -66,7 +63,7 @@ abbrev pub DropMeets : Record → ℕ → Outcome → Type 0
 DropMeets r place o = Meets (drop_conditions r place) (drop_asks ∷ []) (refusal_in (reply_of o.answer)) (o.«record» ≡ r) (o.«record» ≡ with_place r place no_place)
 
 -- Asking for determined columns
-abbrev pub DeterminedMeets : Record → ℕ → ℕ → Columns → Type 0
+abbrev pub DeterminedMeets : Record → ℕ → ℕ → Result Columns Refusal → Type 0
 DeterminedMeets r relation left c =
     Meets (determined_conditions r relation left) (determined_asks ∷ []) (refusal_in (columns_reply c)) NothingToKeep
     (columns_reply c ≡ gives (mask_of (determined_at r relation left), length (determined_at r relation left)))
@@ -80,9 +77,9 @@ CompareMeets r p q c =
     (Compared r p q c)
 
 -- Checking a mapping
-abbrev pub CheckMeets : Record → ℕ → ℕ → List Cell → Checked → Type 0
+abbrev pub CheckMeets : Record → ℕ → ℕ → List Cell → Result Bool Refusal → Type 0
 CheckMeets r p q images c =
-    Meets (pair_conditions r p q) (pair_asks ∷ []) (refusal_in (check_reply c)) NothingToKeep (check_reply c ≡ gives (maps_to (query_at r q) (query_at r p) (entries_of images)))
+    Meets (pair_conditions r p q) (pair_asks ∷ []) (refusal_in (reply_of c)) NothingToKeep (reply_of c ≡ gives (maps_to (query_at r q) (query_at r p) (entries_of images)))
 
 -- Reducing: what is due leaves free which rows stay, their order, and the mapping
 abbrev pub ReduceMeets : Record → ℕ → ℕ → Reduced → Type 0
@@ -93,23 +90,23 @@ ReduceMeets r source target o =
 -- ---- databases
 
 -- Testing a database
-abbrev pub TestMeets : Record → List ℕ → Conformance → Type 0
+abbrev pub TestMeets : Record → List ℕ → Result (Maybe Violation) Refusal → Type 0
 TestMeets r words v =
-    Meets (test_conditions r words) (test_asks ∷ []) (refusal_in (test_reply v)) NothingToKeep
-    (test_reply v ≡ gives (violation_in (schema_of r) (dependencies_of r) (joins_of r) (database_of (schema_of r) words)))
+    Meets (test_conditions r words) (test_asks ∷ []) (refusal_in (reply_of v)) NothingToKeep
+    (reply_of v ≡ gives (violation_in (schema_of r) (dependencies_of r) (joins_of r) (database_of (schema_of r) words)))
 
 -- Evaluating a place
-abbrev pub EvaluateMeets : Record → ℕ → List ℕ → List ℕ → List ℕ → Answered → Type 0
+abbrev pub EvaluateMeets : Record → ℕ → List ℕ → List ℕ → List ℕ → Result ℕ Refusal → Type 0
 EvaluateMeets r place words before after a =
-    Meets (evaluation_conditions r place words (length before)) (evaluate_asks ∷ []) (refusal_in (count_reply a)) (after ≡ before)
-    ((count_reply a ≡ gives (length (place_answers r place words)))
+    Meets (evaluation_conditions r place words (length before)) (evaluate_asks ∷ []) (refusal_in (reply_of a)) (after ≡ before)
+    ((reply_of a ≡ gives (length (place_answers r place words)))
     × (after ≡ over before 0 (answer_words (place_answers r place words))))
 
 -- Counting the answers of a place: it asks what an evaluation with the longest buffer asks
-abbrev pub CountMeets : Record → ℕ → List ℕ → Answered → Type 0
+abbrev pub CountMeets : Record → ℕ → List ℕ → Result ℕ Refusal → Type 0
 CountMeets r place words a =
-    Meets (evaluation_conditions r place words longest_buffer) (evaluate_asks ∷ []) (refusal_in (count_reply a)) NothingToKeep
-    (count_reply a ≡ gives (length (place_answers r place words)))
+    Meets (evaluation_conditions r place words longest_buffer) (evaluate_asks ∷ []) (refusal_in (reply_of a)) NothingToKeep
+    (reply_of a ≡ gives (length (place_answers r place words)))
 
 -- ---- files
 
@@ -119,7 +116,7 @@ ReadMeets file o =
     Meets (read_conditions file) (read_asks file) (refusal_in (reply_of o.answer)) (o.«record» ≡ blank_record) (read_file file ≡ gives o.«record»)
 
 -- Writing a record into a buffer
-abbrev pub WriteMeets : Record → List ℕ → List ℕ → Written → Type 0
+abbrev pub WriteMeets : Record → List ℕ → List ℕ → Result ℕ Refusal → Type 0
 WriteMeets r before after w =
-    Meets (write_conditions r (length before)) (write_asks ∷ []) (refusal_in (length_reply w)) (after ≡ before)
-    ((length_reply w ≡ gives (length (file_of r))) × (after ≡ over before 0 (file_of r)))
+    Meets (write_conditions r (length before)) (write_asks ∷ []) (refusal_in (reply_of w)) (after ≡ before)
+    ((reply_of w ≡ gives (length (file_of r))) × (after ≡ over before 0 (file_of r)))

@@ -1,5 +1,5 @@
 -- Demand 2: containment over all databases, the answers of conjunctive queries, and files that are written and read back.
-use Rattle.std.specs.Prelude.{◌≡◌, ◌↔◌, List, ℕ, ◌≤◌, length}
+use Rattle.std.specs.Prelude.{Result, ◌≡◌, ◌↔◌, List, ℕ, ◌≤◌, length}
 use Rattle.std.proofs.Math.Option.{none}
 use Rattle.query.specs.View.{query_of, as_query}
 use Rattle.record.specs.declared.Record.{Record}
@@ -12,11 +12,9 @@ use Rattle.comparison.specs.Comparison.{comparison_refusal, SaysContained, base}
 use Rattle.words.specs.Words.{database_of}
 use Rattle.answers.specs.Ascending.{Ascending}
 use Rattle.passes.specs.Evaluated.{answer_words}
-use Rattle.replies.specs.declared.Answered.{Answered}
-use Rattle.replies.specs.Replies.{count_reply}
+use Rattle.refusals.specs.declared.Refusal.{Refusal}
+use Rattle.refusals.specs.Refusal.{reply_of}
 use Rattle.database.specs.Calls.{evaluation_refusal, place_answers}
-use Rattle.writer.specs.declared.Written.{Written}
-use Rattle.writer.specs.Write.{length_reply}
 use Rattle.file.specs.RoundTrip.{Reads, Writes}
 use Rattle.theory.specs.Query.{◌∈◌}
 use Rattle.theory.specs.Answer.{Answer}
@@ -38,8 +36,8 @@ pub record Decides (r : Record) (p q : ℕ) (c : Comparison) : Type 0 where
 -- ---- answers
 
 -- The answers that an evaluation counts and writes are those of the place's query on the rows that the words spell, ascending, so each once
-pub record Evaluates (r : Record) (place : ℕ) (words before after : List ℕ) (a : Answered) : Type 0 where
-  pub count : evaluation_refusal r place words (length before) ≡ none → count_reply a ≡ gives (length (place_answers r place words))
+pub record Evaluates (r : Record) (place : ℕ) (words before after : List ℕ) (a : Result ℕ Refusal) : Type 0 where
+  pub count : evaluation_refusal r place words (length before) ≡ none → reply_of a ≡ gives (length (place_answers r place words))
   pub written : evaluation_refusal r place words (length before) ≡ none
       → after ≡ over before 0 (answer_words (place_answers r place words))
   pub ascends : Ascending (place_answers r place words)
@@ -49,9 +47,9 @@ pub record Evaluates (r : Record) (place : ℕ) (words before after : List ℕ) 
 -- ---- files
 
 -- A file that reading accepts, read and written into a buffer with room for it: the same bytes, and those after them stay
-abbrev pub FileComesBack : List ℕ → List ℕ → List ℕ → Written → Type 0
+abbrev pub FileComesBack : List ℕ → List ℕ → List ℕ → Result ℕ Refusal → Type 0
 FileComesBack file before after w =
-    (r : Record) → Reads file r → length file ≤ length before → (length_reply w ≡ gives (length file)) × (after ≡ over before 0 file)
+    (r : Record) → Reads file r → length file ≤ length before → (reply_of w ≡ gives (length file)) × (after ≡ over before 0 file)
 
 -- A record that writing accepts, written and read back: the same record
 abbrev pub RecordComesBack : Record → List ℕ → Outcome → Type 0

@@ -4,13 +4,13 @@ ghost use Rattle.database.specs.Calls.{UnusedIfRefused};
 ghost use Rattle.demands.specs.Demand1Calls.{OpenMeets, AddMeets, AddJoinMeets, PutMeets, DropMeets, DeterminedMeets, CompareMeets, CheckMeets, ReduceMeets};
 ghost use Rattle.demands.specs.Demand1Calls.{TestMeets, EvaluateMeets, CountMeets, ReadMeets, WriteMeets};
 
-use comparison::{Checked, Comparison};
-use file::Written;
+use comparison::Comparison;
 use query::{Cell, Dependency, JoinDependency, Query};
 use record::{Outcome, Record};
 use record_calls::Columns;
 use reduction::Reduced;
-use replies::{Answered, Conformance};
+use refusals::Refusal;
+use words::Violation;
 
 // ---- the record
 
@@ -50,7 +50,7 @@ pub fn drop_query(given: Record, place: usize) -> Outcome
 }
 
 // The columns that a left set determines.
-pub fn determined(given: Record, relation: u8, left: u8) -> Columns
+pub fn determined(given: Record, relation: u8, left: u8) -> Result<Columns, Refusal>
     ensures { DeterminedMeets given relation left result }
 {
     record_calls::determined(given, relation, left)
@@ -66,7 +66,7 @@ pub fn compare(given: Record, p: usize, q: usize) -> Comparison
 }
 
 // Checks a mapping from the query of place q to that of place p.
-pub fn check(given: Record, p: usize, q: usize, images: [Cell; 96]) -> Checked
+pub fn check(given: Record, p: usize, q: usize, images: [Cell; 96]) -> Result<bool, Refusal>
     ensures { CheckMeets given p q images result }
 {
     comparison::check_mapping(given, p, q, images)
@@ -82,14 +82,19 @@ pub fn reduce(given: Record, source: usize, target: usize) -> Reduced
 // ---- databases
 
 // Tests a database against the dependencies.
-pub fn test(given: Record, words: &[u32]) -> Conformance
+pub fn test(given: Record, words: &[u32]) -> Result<Option<Violation>, Refusal>
     ensures { TestMeets given words.now result }
 {
     database::test(given, words)
 }
 
 // The same in lent tables, which a refused test leaves as they were.
-pub fn test_lent(given: Record, words: &[u32], heads: &mut [u32], nodes: &mut [u32]) -> Conformance
+pub fn test_lent(
+    given: Record,
+    words: &[u32],
+    heads: &mut [u32],
+    nodes: &mut [u32],
+) -> Result<Option<Violation>, Refusal>
     ensures test_meets { TestMeets given words.now result }
     ensures unused_if_refused { UnusedIfRefused (test_conditions given words.now) heads.old heads.new }
     ensures unused_if_refused_2 { UnusedIfRefused (test_conditions given words.now) nodes.old nodes.new }
@@ -98,7 +103,12 @@ pub fn test_lent(given: Record, words: &[u32], heads: &mut [u32], nodes: &mut [u
 }
 
 // Evaluates the query of a place on a database.
-pub fn evaluate(given: Record, place: usize, words: &[u32], buffer: &mut [u32]) -> Answered
+pub fn evaluate(
+    given: Record,
+    place: usize,
+    words: &[u32],
+    buffer: &mut [u32],
+) -> Result<usize, Refusal>
     ensures { EvaluateMeets given place words.now buffer.old buffer.new result }
 {
     database::evaluate(given, place, words, buffer)
@@ -114,7 +124,7 @@ pub fn evaluate_lent(
     states: &mut [u32],
     batch: &mut [u32],
     scratch: &mut [u32],
-) -> Answered
+) -> Result<usize, Refusal>
     ensures evaluate_meets { EvaluateMeets given place words.now buffer.old buffer.new result }
     ensures unused_if_refused { UnusedIfRefused (search_conditions given place words.now) index.old index.new }
     ensures unused_if_refused_2 { UnusedIfRefused (search_conditions given place words.now) states.old states.new }
@@ -125,7 +135,7 @@ pub fn evaluate_lent(
 }
 
 // Counts the answers of the query of a place on a database.
-pub fn count(given: Record, place: usize, words: &[u32]) -> Answered
+pub fn count(given: Record, place: usize, words: &[u32]) -> Result<usize, Refusal>
     ensures { CountMeets given place words.now result }
 {
     database::count(given, place, words)
@@ -140,7 +150,7 @@ pub fn count_lent(
     states: &mut [u32],
     batch: &mut [u32],
     scratch: &mut [u32],
-) -> Answered
+) -> Result<usize, Refusal>
     ensures count_meets { CountMeets given place words.now result }
     ensures unused_if_refused { UnusedIfRefused (search_conditions given place words.now) index.old index.new }
     ensures unused_if_refused_2 { UnusedIfRefused (search_conditions given place words.now) states.old states.new }
@@ -160,7 +170,7 @@ pub fn read(file: &[u8]) -> Outcome
 }
 
 // Writes a record into a lent buffer.
-pub fn write(given: Record, buffer: &mut [u8]) -> Written
+pub fn write(given: Record, buffer: &mut [u8]) -> Result<usize, Refusal>
     ensures { WriteMeets given buffer.old buffer.new result }
 {
     file::write(given, buffer)

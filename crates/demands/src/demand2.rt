@@ -2,9 +2,8 @@
 ghost use Rattle.demands.specs.Demand2.{Decides, Evaluates, FileComesBack, RecordComesBack};
 
 use comparison::Comparison;
-use file::Written;
 use record::{Outcome, Record};
-use replies::Answered;
+use refusals::Refusal;
 
 // Contained exactly when it is so on every database that obeys the dependencies; otherwise one is shown on which it is not.
 pub fn compare(given: Record, p: usize, q: usize) -> Comparison
@@ -14,7 +13,12 @@ pub fn compare(given: Record, p: usize, q: usize) -> Comparison
 }
 
 // The answers are those of conjunctive queries over finite tables, ascending, each once.
-pub fn evaluate(given: Record, place: usize, words: &[u32], buffer: &mut [u32]) -> Answered
+pub fn evaluate(
+    given: Record,
+    place: usize,
+    words: &[u32],
+    buffer: &mut [u32],
+) -> Result<usize, Refusal>
     ensures { Evaluates given place words.now buffer.old buffer.new result }
 {
     database::evaluate(given, place, words, buffer)
@@ -30,7 +34,7 @@ pub fn evaluate_lent(
     states: &mut [u32],
     batch: &mut [u32],
     scratch: &mut [u32],
-) -> Answered
+) -> Result<usize, Refusal>
     ensures { Evaluates given place words.now buffer.old buffer.new result }
 {
     database::evaluate_lent(given, place, words, buffer, index, states, batch, scratch)
@@ -41,19 +45,15 @@ pub fn write_back(file: &[u8], buffer: &mut [u8]) -> Result<usize, Refusal>
     ensures { FileComesBack file.now buffer.old buffer.new result }
 {
     let read = file::read(file);
-    let answer = read.answer;
-    match answer {
-        Ok(()) => file::write(read.record, buffer),
-        Err(refusal) => Err(refusal),
-    }
+    read.answer?;
+    file::write(read.record, buffer)
 }
 
 // A record that is written, and its file read: the same record.
 pub fn read_back(given: Record, buffer: &mut [u8]) -> Outcome
     ensures { RecordComesBack given buffer.old result }
 {
-    let written = file::write(given, buffer);
-    match written {
+    match file::write(given, buffer) {
         Ok(n) => file::read(&buffer[..n]),
         Err(refusal) => Outcome {
             answer: Err(refusal),
