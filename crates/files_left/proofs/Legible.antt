@@ -22,6 +22,7 @@ use Rattle.query.specs.Rule.{good_dependency, good_join, good_query, head_safe, 
 use Rattle.record.specs.Rule.{good_record}
 use Rattle.record_calls.specs.Calls.{blank_record, empty_record, open_record, drop_query}
 use Rattle.record_calls.proofs.Meaning.{open-keeps, drop_keeps}
+use Rattle.refusals.specs.Refusal.{number_of}
 use Rattle.refusals.specs.Refusals.{◌>>=◌, bad_query, buffer_too_short, too_many_rows, first_holding, gives, refused, reply, Reply}
 use Rattle.record.specs.Calls.{query_at, concluded, broken_record, unknown_place, vacant, filled}
 use Rattle.record.specs.Calls.{with_place, with_dependency, add_dependency, put_query}
@@ -317,7 +318,7 @@ compare-left file hb p q r e clear said mapping part size mapping_after part_aft
     go c is shape images k verdict.Never a =
         let z = (given_back 2 [] images (leb 192 (length mapping) && leb 0 (length part))
         (subst (λ (x : Reply (ℕ × List ℕ)). Given x images) (comparison-never (length mapping) (length part) (schema_of r) c a) k)).0 in absurd (omega arith)
-    go c is shape images k (verdict.Refused n) a =
+    go c is shape images k (verdict.Refused why) a =
         absurd
-        (not-refused n (sym (ap verdict_reply a) ∙ is.verdict) (outcome_at r p) refl (ltb (length mapping) 192)
-        (subst (λ (x : Reply (ℕ × List ℕ)). Given x images) (comparison-refused (length mapping) (length part) (schema_of r) c n a) k).0)
+        (not-refused (number_of why) (sym (ap verdict_reply a) ∙ is.verdict) (outcome_at r p) refl (ltb (length mapping) 192)
+        (subst (λ (x : Reply (ℕ × List ℕ)). Given x images) (comparison-refused (length mapping) (length part) (schema_of r) c why a) k).0)
