@@ -135,10 +135,7 @@ pub fn add_join_in_file(
 {
     let outcome = file::read(file);
     match outcome.answer {
-        Ok(()) => {
-            let given = outcome.record;
-            store_outcome(add_sets(given, relation, sets), out, size)
-        }
+        Ok(()) => store_outcome(add_sets(outcome.record, relation, sets), out, size),
         Err(refusal) => u8::from(refusal),
     }
 }
@@ -150,10 +147,7 @@ pub fn put_in_file(file: &[u8], place: usize, query: &[u8], out: &mut [u8], size
 {
     let outcome = file::read(file);
     match outcome.answer {
-        Ok(()) => {
-            let given = outcome.record;
-            store_outcome(put_part(given, place, query), out, size)
-        }
+        Ok(()) => store_outcome(put_part(outcome.record, place, query), out, size),
         Err(refusal) => u8::from(refusal),
     }
 }
@@ -165,10 +159,7 @@ pub fn drop_in_file(file: &[u8], place: usize, out: &mut [u8], size: &mut usize)
 {
     let outcome = file::read(file);
     match outcome.answer {
-        Ok(()) => {
-            let given = outcome.record;
-            store_outcome(record_calls::drop_query(given, place), out, size)
-        }
+        Ok(()) => store_outcome(record_calls::drop_query(outcome.record, place), out, size),
         Err(refusal) => u8::from(refusal),
     }
 }
