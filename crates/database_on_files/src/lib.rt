@@ -31,8 +31,7 @@ pub fn test_in_file_lent(
     ensures unused_in_file_2 { UnusedInFile file.now (λ r. test_conditions r words.now) nodes.old nodes.new }
 {
     let outcome = file::read(file);
-    let answer = outcome.answer;
-    match answer {
+    match outcome.answer {
         Ok(()) => {
             let given = outcome.record;
             let found = database::test_lent(given, words, heads, nodes);
@@ -62,8 +61,7 @@ pub fn test_in_file(
     ensures fourth_after { fourth.new ≡ leaves (tested_in file.now words.now) (λ t. t.fourth) fourth.old }
 {
     let outcome = file::read(file);
-    let answer = outcome.answer;
-    match answer {
+    match outcome.answer {
         Ok(()) => {
             let given = outcome.record;
             let found = database::test(given, words);
@@ -95,8 +93,7 @@ pub fn evaluate_in_file_lent(
     ensures unused_in_file_4 { UnusedInFile file.now (λ r. search_conditions r place words.now) scratch.old scratch.new }
 {
     let outcome = file::read(file);
-    let answer = outcome.answer;
-    match answer {
+    match outcome.answer {
         Ok(()) => {
             let given = outcome.record;
             let done = database::evaluate_lent(
@@ -122,8 +119,7 @@ pub fn evaluate_in_file(
         count.old }
 {
     let outcome = file::read(file);
-    let answer = outcome.answer;
-    match answer {
+    match outcome.answer {
         Ok(()) => {
             let given = outcome.record;
             let done = database::evaluate(given, place, words, answers);
@@ -152,8 +148,7 @@ pub fn count_in_file_lent(
     ensures unused_in_file_4 { UnusedInFile file.now (λ r. search_conditions r place words.now) scratch.old scratch.new }
 {
     let outcome = file::read(file);
-    let answer = outcome.answer;
-    match answer {
+    match outcome.answer {
         Ok(()) => {
             let given = outcome.record;
             let done = database::count_lent(given, place, words, index, states, batch, scratch);
@@ -169,8 +164,7 @@ pub fn count_in_file(file: &[u8], place: usize, words: &[u32], count: &mut usize
     ensures count_after { count.new ≡ leaves (counted_in file.now place words.now) (λ n. n) count.old }
 {
     let outcome = file::read(file);
-    let answer = outcome.answer;
-    match answer {
+    match outcome.answer {
         Ok(()) => {
             let given = outcome.record;
             let done = database::count(given, place, words);

@@ -1,4 +1,5 @@
 // What a call on a file returns, and leaves in the numbers that it is lent: 0 and the parts of its answer, or the number of the refusal and the numbers as they were.
+// Kept as it is: these give a number and fill numbers that are lent, and give no Result, since calls of the C interface return and lend these.
 #![tactic(auto)]
 
 ghost use Rattle.std.specs.Prelude.{◌≡◌};

@@ -32,8 +32,7 @@ pub fn store_outcome(outcome: Outcome, out: &mut [u8], size: &mut usize) -> u8
     requires { GoodIfDone outcome }
     ensures { Wrote (file_fitted (length out.old) (result_of (outcome_reply outcome))) out.old size.old result out.new size.new }
 {
-    let answer = outcome.answer;
-    match answer {
+    match outcome.answer {
         Ok(()) => store(outcome.record, out, size),
         Err(refusal) => u8::from(refusal),
     }
@@ -109,8 +108,7 @@ pub fn add_in_file(
     ensures { Wrote (added file.now relation left right (length out.old)) out.old size.old result out.new size.new }
 {
     let outcome = file::read(file);
-    let answer = outcome.answer;
-    match answer {
+    match outcome.answer {
         Ok(()) => {
             let given = outcome.record;
             let d = Dependency {
@@ -136,12 +134,8 @@ pub fn add_join_in_file(
         out.new size.new }
 {
     let outcome = file::read(file);
-    let answer = outcome.answer;
-    match answer {
-        Ok(()) => {
-            let given = outcome.record;
-            store_outcome(add_sets(given, relation, sets), out, size)
-        }
+    match outcome.answer {
+        Ok(()) => store_outcome(add_sets(outcome.record, relation, sets), out, size),
         Err(refusal) => u8::from(refusal),
     }
 }
@@ -152,12 +146,8 @@ pub fn put_in_file(file: &[u8], place: usize, query: &[u8], out: &mut [u8], size
         out.new size.new }
 {
     let outcome = file::read(file);
-    let answer = outcome.answer;
-    match answer {
-        Ok(()) => {
-            let given = outcome.record;
-            store_outcome(put_part(given, place, query), out, size)
-        }
+    match outcome.answer {
+        Ok(()) => store_outcome(put_part(outcome.record, place, query), out, size),
         Err(refusal) => u8::from(refusal),
     }
 }
@@ -168,12 +158,8 @@ pub fn drop_in_file(file: &[u8], place: usize, out: &mut [u8], size: &mut usize)
         size.new }
 {
     let outcome = file::read(file);
-    let answer = outcome.answer;
-    match answer {
-        Ok(()) => {
-            let given = outcome.record;
-            store_outcome(record_calls::drop_query(given, place), out, size)
-        }
+    match outcome.answer {
+        Ok(()) => store_outcome(record_calls::drop_query(outcome.record, place), out, size),
         Err(refusal) => u8::from(refusal),
     }
 }
@@ -191,8 +177,7 @@ pub fn determined_in_file(
     ensures count_after { count.new ≡ leaves (determined_in file.now relation left) (λ s. s.1) count.old }
 {
     let outcome = file::read(file);
-    let answer = outcome.answer;
-    match answer {
+    match outcome.answer {
         Ok(()) => {
             let given = outcome.record;
             leave_columns(

@@ -22,8 +22,7 @@ pub fn store_reduction(
     ensures { ReductionGiven (reduction_fits (length out.old) (length mapping.old) reduced) out.old size.old
         count.old mapping.old result out.new size.new count.new mapping.new }
 {
-    let answer = reduced.answer;
-    match answer {
+    match reduced.answer {
         Ok(()) => {
             if mapping.len() < 192 {
                 return u8::from(Refusal::BufferTooShort);
@@ -59,8 +58,7 @@ pub fn reduce_in_file(
         out.new size.new count.new mapping.new }
 {
     let outcome = file::read(file);
-    let answer = outcome.answer;
-    match answer {
+    match outcome.answer {
         Ok(()) => {
             let given = outcome.record;
             let reduced = reduction::reduce(given, source, target);
