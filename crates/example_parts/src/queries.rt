@@ -7,19 +7,12 @@ pub fn pair(arity: u8, shown: Entry, size: u8, b: Entry, c: Entry) -> Query {
     let v0 = Cell {
         entry: Entry::Variable(0),
     };
-    let mut q = entries::no_query();
-    q.arity = arity;
+    let mut q = Query::never(arity);
     q.size = size;
     if 0 < size {
-        if 0 < arity {
-            q.head[0] = v0;
-        }
-        if 1 < arity {
-            q.head[1] = Cell { entry: shown };
-        }
-        if 2 < arity {
-            q.head[2] = Cell { entry: shown };
-        }
+        let head = [v0, Cell { entry: shown }, Cell { entry: shown }];
+        let used = usize::from(arity).min(3);
+        q.head[..used].copy_from_slice(&head[..used]);
         q.cells[0] = v0;
         q.cells[1] = Cell { entry: b };
     }
@@ -32,28 +25,36 @@ pub fn pair(arity: u8, shown: Entry, size: u8, b: Entry, c: Entry) -> Query {
 
 // The record with a query put at a place. Each is put where it is accepted.
 pub fn put(r: Record, place: usize, q: Query) -> Record {
-    let outcome = r.put(place, q);
-    outcome.record
+    r.put(place, q).record
+}
+
+// The record with queries put at its first places.
+pub fn put_all(r: Record, queries: &[Query]) -> Record {
+    let mut filled = r;
+    for (place, q) in queries.iter().enumerate() {
+        filled = put(filled, place, *q);
+    }
+    filled
 }
 
 // The record in which column 0 of relation 0 determines column 1.
 pub fn dependent(r: Record) -> Record {
-    let added = r.add_dependency(Dependency {
+    r.add_dependency(Dependency {
         relation: 0,
         left: 1,
         right: 1,
-    });
-    added.record
+    })
+    .record
 }
 
 // The record in which relation 0 is the join of its columns 0 and 1.
 pub fn joined(r: Record) -> Record {
-    let added = r.add_join(JoinDependency {
+    r.add_join(JoinDependency {
         relation: 0,
         count: 2,
         sets: [1, 2, 0, 0],
-    });
-    added.record
+    })
+    .record
 }
 
 // The record with something where no relation is.

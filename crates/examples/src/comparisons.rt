@@ -1,8 +1,8 @@
 // Two places compared, and a mapping checked, with the refusals and their order.
 // A line is the two places and the answer: the refusal's number; contained, with the images of v0, v1, v2 where there is a mapping; or not contained, with the
 // number of rows and the first row of the first query, chased; of a check yes or no. Relation 0 is R with columns a, b.
-use comparison::{Checked, Comparison, Verdict};
-use example_parts::queries::{pair, put};
+use comparison::{Comparison, Verdict};
+use example_parts::queries::{pair, put_all};
 use example_parts::{queries, show};
 use query::{Cell, Entry, Query};
 use record::Record;
@@ -10,67 +10,46 @@ use std::io;
 
 // Writes a comparison.
 fn comparison(rt: &impl Print, c: Comparison) -> io::Result<()> {
-    let verdict = c.verdict;
-    let images = c.images;
-    let query = c.query;
-    let cells = query.cells;
-    match verdict {
+    match c.verdict {
         Verdict::Never => print!(rt; " contained, never")?,
         Verdict::Mapped => {
             print!(rt; " contained,")?;
-            show::images(rt, images)?;
+            show::images(rt, &c.images)?;
         }
         Verdict::Apart => {
-            show::number(rt, b" not contained, rows ", query.size)?;
-            print!(rt; ", first")?;
-            show::cell(rt, cells[0])?;
-            show::cell(rt, cells[1])?;
+            let query = c.query;
+            print!(rt; " not contained, rows {}, first", query.size)?;
+            show::cell(rt, query.cells[0])?;
+            show::cell(rt, query.cells[1])?;
         }
-        Verdict::Refused(n) => show::number(rt, b" ", n)?,
+        Verdict::Refused(refusal) => print!(rt; " {}", u8::from(refusal))?,
     }
-    show::end(rt)
-}
-
-// Writes what the checking of a mapping says.
-fn checked(rt: &impl Print, answer: Checked) -> io::Result<()> {
-    match answer {
-        Checked::Yes => print!(rt; " yes")?,
-        Checked::No => print!(rt; " no")?,
-        Checked::Refused(n) => show::number(rt, b" ", n)?,
-    }
-    show::end(rt)
+    println!(rt;)
 }
 
 // R(v0, v0) at 0, R(v0, v1) at 1, never at 2, R(v0, 3), R(v0, 4) at 3, all with an empty head; R(v0, v1), R(v0, v2) with head v0 at 4, R(v0, 3) with that head at 5.
 fn filled(r: Record) -> Record {
     let zero = Entry::Constant(0);
     let three = Entry::Constant(3);
-    let a = put(r, 0, pair(0, zero, 1, Entry::Variable(0), zero));
-    let b = put(a, 1, pair(0, zero, 1, Entry::Variable(1), zero));
-    let c = put(b, 2, pair(0, zero, 0, zero, zero));
-    let d = put(c, 3, pair(0, zero, 2, three, Entry::Constant(4)));
-    let e = put(
-        d,
-        4,
+    let queries = [
+        pair(0, zero, 1, Entry::Variable(0), zero),
+        pair(0, zero, 1, Entry::Variable(1), zero),
+        pair(0, zero, 0, zero, zero),
+        pair(0, zero, 2, three, Entry::Constant(4)),
         pair(1, zero, 2, Entry::Variable(1), Entry::Variable(2)),
-    );
-    put(e, 5, pair(1, zero, 1, three, zero))
+        pair(1, zero, 1, three, zero),
+    ];
+    put_all(r, &queries)
 }
 
 // That many rows R(v0, v1), R(v2, v3) and so on, at most 5, with an empty head.
 fn rows(size: u8) -> Query {
-    let mut q = entries::no_query();
+    let mut q = Query::never(0);
     q.size = size;
-    for i in 0..5u8 {
-        if i < size {
-            let at = 8 * i as usize;
-            q.cells[at] = Cell {
-                entry: Entry::Variable(2 * i),
-            };
-            q.cells[at + 1] = Cell {
-                entry: Entry::Variable(2 * i + 1),
-            };
-        }
+    for i in 0..size.min(5) {
+        let at = 8 * usize::from(i);
+        q.cells[at].entry = Entry::Variable(2 * i);
+        q.cells[at + 1].entry = Entry::Variable(2 * i + 1);
     }
     q
 }
@@ -79,71 +58,67 @@ fn rows(size: u8) -> Query {
 fn shown(size: u8, v: u8) -> Query {
     let mut q = rows(size);
     q.arity = 2;
-    q.head[0] = Cell {
-        entry: Entry::Variable(0),
-    };
-    q.head[1] = Cell {
-        entry: Entry::Variable(v),
-    };
+    q.head[0].entry = Entry::Variable(0);
+    q.head[1].entry = Entry::Variable(v);
     q
 }
 
 // R(v0, v1), R(v2, v3) with head v0, v3 at 0, R(v0, v1) with head v0, v1 at 1; 4 such rows at 2, 5 at 3, never at 4, with an empty head.
 fn crossed(r: Record) -> Record {
-    let a = put(r, 0, shown(2, 3));
-    let b = put(a, 1, shown(1, 1));
-    let c = put(b, 2, rows(4));
-    let d = put(c, 3, rows(5));
-    put(d, 4, rows(0))
+    let queries = [shown(2, 3), shown(1, 1), rows(4), rows(5), rows(0)];
+    put_all(r, &queries)
 }
 
 // The comparison of two places.
-fn compare_two(rt: &impl Print, r: Record, p: u8, q: u8) -> io::Result<()> {
-    show::places(rt, b"compare ", p, q)?;
-    comparison(rt, comparison::compare(r, p as usize, q as usize))
+fn compare_two(rt: &impl Print, r: Record, p: usize, q: usize) -> io::Result<()> {
+    print!(rt; "compare {p} {q}:")?;
+    comparison(rt, comparison::compare(r, p, q))
 }
 
 // Each pair in which the join dependency tells: a row that it asks for, 16 rows from 4, and a 25th row.
 fn compare_joined(rt: &impl Print, r: Record) -> io::Result<()> {
-    compare_two(rt, r, 0, 1)?;
-    compare_two(rt, r, 1, 0)?;
-    compare_two(rt, r, 2, 4)?;
-    compare_two(rt, r, 3, 4)?;
-    compare_two(rt, r, 4, 3)
+    for (p, q) in [(0, 1), (1, 0), (2, 4), (3, 4), (4, 3)] {
+        compare_two(rt, r, p, q)?;
+    }
+    Ok(())
 }
 
 // The comparison of place p with each of the places 0 to 8.
-fn compare_with(rt: &impl Print, r: Record, p: u8) -> io::Result<()> {
-    for q in 0..9u8 {
-        show::places(rt, b"compare ", p, q)?;
-        comparison(rt, comparison::compare(r, p as usize, q as usize))?;
+fn compare_with(rt: &impl Print, r: Record, p: usize) -> io::Result<()> {
+    for q in 0..9 {
+        compare_two(rt, r, p, q)?;
     }
     Ok(())
 }
 
 // The comparison of each of the places 0 to 8 with each.
 fn compare_all(rt: &impl Print, r: Record) -> io::Result<()> {
-    for p in 0..9u8 {
+    for p in 0..9 {
         compare_with(rt, r, p)?;
     }
     Ok(())
 }
 
 // The checking, for each of the places 0 to 8 and place q, of the images of v0, v1, v2.
-fn check_with(rt: &impl Print, r: Record, q: u8, a: Entry, b: Entry, c: Entry) -> io::Result<()> {
-    let blank = Cell {
-        entry: Entry::Constant(0),
-    };
-    let mut images = [blank; 96];
+fn check_with(
+    rt: &impl Print,
+    r: Record,
+    q: usize,
+    a: Entry,
+    b: Entry,
+    c: Entry,
+) -> io::Result<()> {
+    let mut images = [query::NO_CELL; 96];
     images[0] = Cell { entry: a };
     images[1] = Cell { entry: b };
     images[2] = Cell { entry: c };
-    for p in 0..9u8 {
-        show::places(rt, b"check ", p, q)?;
-        checked(
-            rt,
-            comparison::check_mapping(r, p as usize, q as usize, images),
-        )?;
+    for p in 0..9 {
+        print!(rt; "check {p} {q}: ")?;
+        match comparison::check_mapping(r, p, q, images) {
+            Ok(true) => println!(rt; "yes")?,
+            Ok(false) => println!(rt; "no")?,
+            Err(refusal) => println!(rt; "{}", u8::from(refusal))?,
+        }
     }
     Ok(())
 }
@@ -151,8 +126,8 @@ fn check_with(rt: &impl Print, r: Record, q: u8, a: Entry, b: Entry, c: Entry) -
 pub fn all(rt: &impl Print) -> io::Result<()> {
     let zero = Entry::Constant(0);
     let v0 = Entry::Variable(0);
-    let opened = record_calls::open(&[2]);
-    let r = filled(opened.record);
+    let opened = record_calls::open(&[2]).record;
+    let r = filled(opened);
     compare_all(rt, r)?;
     check_with(rt, r, 1, v0, v0, zero)?;
     check_with(rt, r, 1, v0, v0, v0)?;
@@ -160,7 +135,7 @@ pub fn all(rt: &impl Print) -> io::Result<()> {
     check_with(rt, r, 2, zero, zero, zero)?;
     compare_all(rt, queries::dependent(r))?;
     compare_with(rt, queries::spoilt(r), 8)?;
-    let pairs = crossed(opened.record);
+    let pairs = crossed(opened);
     compare_joined(rt, pairs)?;
     compare_joined(rt, queries::joined(pairs))
 }

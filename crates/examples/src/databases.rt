@@ -1,68 +1,67 @@
 // A database tested, a place evaluated on it, and a record written, with the refusals and their order.
 // A line is the call and the answer: the refusal's number; of a test obeys, or the broken dependency with its rows; of an evaluation how many answers
 // there are and the first two words of the buffer, which hold 9 before; of writing the file's length. Relation 0 is R with columns a, b.
+use example_parts::queries;
 use example_parts::queries::{pair, put};
-use example_parts::{queries, show};
 use query::Entry;
 use record::Record;
-use replies::{Answered, Conformance};
 use std::io;
-use writer::Written;
+use words::Violation;
 
 // Tests a database.
 fn test(rt: &impl Print, r: Record, words: &[u32]) -> io::Result<()> {
-    print!(rt; "test:")?;
-    let found = database::test(r, words);
-    match found {
-        Conformance::Obeys => print!(rt; " obeys")?,
-        Conformance::Broken(k, i, j) => print!(rt; " breaks {k} in rows {i} {j}")?,
-        Conformance::BrokenJoin(k, a, b, c, d) => {
-            print!(rt; " breaks join {k} in rows {a} {b} {c} {d}")?;
+    print!(rt; "test: ")?;
+    match database::test(r, words) {
+        Ok(None) => println!(rt; "obeys"),
+        Ok(
+            Some(
+                Violation::Functional {
+                    dependency,
+                    first,
+                    second,
+                },
+            ),
+        ) => println!(rt; "breaks {dependency} in rows {first} {second}"),
+        Ok(Some(Violation::Join { dependency, rows })) => {
+            print!(rt; "breaks join {dependency} in rows")?;
+            for row in rows {
+                print!(rt; " {row}")?;
+            }
+            println!(rt;)
         }
-        Conformance::Refused(n) => show::number(rt, b" ", n)?,
+        Err(refusal) => println!(rt; "{}", u8::from(refusal)),
     }
-    show::end(rt)
 }
 
-// Writes a word after a text.
-fn word(rt: &impl Print, text: &[u8], n: u32) -> io::Result<()> {
-    rt.write_all(text)?;
-    print!(rt; "{n}")
-}
-
-// Evaluates a place.
-fn evaluate(rt: &impl Print, r: Record, place: u8, words: &[u32], room: bool) -> io::Result<()> {
-    show::case(rt, b"evaluate ", place)?;
-    let mut answers = [9u32; 2];
-    let done = if room {
-        database::evaluate(r, place as usize, words, &mut answers)
-    } else {
-        database::evaluate(r, place as usize, words, &mut answers[..1])
-    };
-    match done {
-        Answered::Count(n) => print!(rt; "answers {n}")?,
-        Answered::Refused(n) => show::number(rt, b"", n)?,
+// Evaluates a place, with room for so many words, at most 2.
+fn evaluate(
+    rt: &impl Print,
+    r: Record,
+    place: usize,
+    words: &[u32],
+    room: usize,
+) -> io::Result<()> {
+    print!(rt; "evaluate {place}: ")?;
+    let mut answers = [9; 2];
+    match database::evaluate(r, place, words, &mut answers[..room.min(2)]) {
+        Ok(count) => print!(rt; "answers {count}")?,
+        Err(refusal) => print!(rt; "{}", u8::from(refusal))?,
     }
-    word(rt, b", buffer ", answers[0])?;
-    word(rt, b" ", answers[1])?;
-    show::end(rt)
+    println!(rt; ", buffer {} {}", answers[0], answers[1])
 }
 
 // Writes a record into a buffer of 64 bytes.
 fn write(rt: &impl Print, r: Record) -> io::Result<()> {
     print!(rt; "write: ")?;
-    let mut buffer = [0u8; 64];
-    let written = file::write(r, &mut buffer);
-    match written {
-        Written::Length(n) => print!(rt; "{n}")?,
-        Written::Refused(n) => show::number(rt, b"", n)?,
+    let mut buffer = [0; 64];
+    match file::write(r, &mut buffer) {
+        Ok(length) => println!(rt; "{length}"),
+        Err(refusal) => println!(rt; "{}", u8::from(refusal)),
     }
-    show::end(rt)
 }
 
 pub fn all(rt: &impl Print) -> io::Result<()> {
-    let opened = record_calls::open(&[2]);
-    let empty = opened.record;
+    let empty = record_calls::open(&[2]).record;
     write(rt, empty)?;
     let v1 = Entry::Variable(1);
     let r = put(
@@ -86,10 +85,10 @@ pub fn all(rt: &impl Print) -> io::Result<()> {
     test(rt, cross, &missing)?;
     test(rt, queries::joined(r), &missing)?;
     test(rt, queries::joined(r), &broken)?;
-    evaluate(rt, r, 0, &good, true)?;
-    evaluate(rt, r, 0, &good, false)?;
-    evaluate(rt, r, 0, &cut, false)?;
-    evaluate(rt, r, 1, &cut, false)?;
-    evaluate(rt, r, 8, &cut, false)?;
-    evaluate(rt, queries::spoilt(r), 8, &cut, false)
+    evaluate(rt, r, 0, &good, 2)?;
+    evaluate(rt, r, 0, &good, 1)?;
+    evaluate(rt, r, 0, &cut, 1)?;
+    evaluate(rt, r, 1, &cut, 1)?;
+    evaluate(rt, r, 8, &cut, 1)?;
+    evaluate(rt, queries::spoilt(r), 8, &cut, 1)
 }
