@@ -2,6 +2,9 @@
 use mathlib.Core.Path.{◌≡◌, refl, sym, ap, subst}
 use mathlib.Core.List.{List}
 use Prim.Native.Nat.{ℕ}
+use Rattle.std.specs.Prelude.{Result, Err}
+use Rattle.refusals.specs.declared.Refusal.{Refusal}
+use Rattle.refusals.specs.Refusal.{number_of, reply_of}
 use Rattle.refusals.specs.Refusals.{◌>>=◌, gives, refused, Reply}
 use Rattle.lent_numbers.specs.Lent.{returned, leaves, Wrote}
 
@@ -39,3 +42,13 @@ wrote-same p out n number after m w = subst (λ (z : Reply (List ℕ)). Wrote z 
 
 pub wrote_none : {x : Reply (List ℕ)} {number : ℕ} → x ≡ refused number → (out : List ℕ) (n : ℕ) → Wrote x out n number out n
 wrote_none {number = number} p out n = wrote-same p out n number out n (refl, refl, refl)
+
+-- A refusal that is handed on, and everything as it was
+pub wrote_err : {x : Reply (List ℕ)} (said : Result (Unit {0}) Refusal) (why : Refusal) → (e : Refusal) × (said ≡ Err e) × (e ≡ why)
+    → x ≡ refused (number_of why) → (out : List ℕ) (n : ℕ) → Wrote x out n (returned (reply_of said)) out n
+wrote_err said why left p out n = rw (left.1, left.2) (wrote_none p out n)
+
+-- and the number of a call that is refused so
+pub err-number : {A : Type 0} {x : Reply A} (said : Result (Unit {0}) Refusal) (why : Refusal) → (e : Refusal) × (said ≡ Err e) × (e ≡ why)
+    → x ≡ refused (number_of why) → returned (reply_of said) ≡ returned x
+err-number said why left p = rw (left.1, left.2) (refused-number p)

@@ -1,5 +1,5 @@
-// What a call on a file returns, and leaves in the numbers that it is lent: 0 and the parts of its answer, or the number of the refusal and the numbers as they were.
-// Kept as it is: these give a number and fill numbers that are lent, and give no Result, since calls of the C interface return and lend these.
+// What a call on a file leaves in the numbers that it is lent, the parts of its answer, or a refusal and the numbers as they were; and the number that it returns.
+// Kept as it is: these fill numbers that are lent, since the calls of the C interface lend them.
 #![tactic(auto)]
 
 ghost use Rattle.std.specs.Prelude.{◌≡◌};
@@ -22,37 +22,33 @@ pub fn number_of(answer: Result<(), Refusal>) -> u8
     }
 }
 
-// Leaves a count: the length of what was written, or the number of answers. Gives 0, or the number of the refusal.
-pub fn leave_count(counted: Result<usize, Refusal>, count: &mut usize) -> u8
-    ensures value { result ≡ returned (reply_of counted) }
+// Leaves a count: the length of what was written, or the number of answers.
+pub fn leave_count(counted: Result<usize, Refusal>, count: &mut usize) -> Result<(), Refusal>
+    ensures value { returned (reply_of result) ≡ returned (reply_of counted) }
     ensures count_after { count.new ≡ leaves (reply_of counted) (λ n. n) count.old }
 {
-    match counted {
-        Ok(n) => {
-            *count = n;
-            0
-        }
-        Err(refusal) => u8::from(refusal),
-    }
+    let n = counted?;
+    *count = n;
+    Ok(())
 }
 
-// Leaves the columns that a left set determines, and how many they are. Gives 0, or the number of the refusal.
-pub fn leave_columns(found: Result<Columns, Refusal>, columns: &mut u8, count: &mut u8) -> u8
-    ensures value { result ≡ returned (columns_reply found) }
+// Leaves the columns that a left set determines, and how many they are.
+pub fn leave_columns(
+    found: Result<Columns, Refusal>,
+    columns: &mut u8,
+    count: &mut u8,
+) -> Result<(), Refusal>
+    ensures value { returned (reply_of result) ≡ returned (columns_reply found) }
     ensures columns_after { columns.new ≡ leaves (columns_reply found) (λ s. s.0) columns.old }
     ensures count_after { count.new ≡ leaves (columns_reply found) (λ s. s.1) count.old }
 {
-    match found {
-        Ok(determined) => {
-            *columns = determined.set;
-            *count = determined.count;
-            0
-        }
-        Err(refusal) => u8::from(refusal),
-    }
+    let determined = found?;
+    *columns = determined.set;
+    *count = determined.count;
+    Ok(())
 }
 
-// Leaves what a test says. Gives 0, or the number of the refusal.
+// Leaves what a test says.
 pub fn leave_test(
     tested: Result<Option<Violation>, Refusal>,
     verdict: &mut u8,
@@ -61,8 +57,8 @@ pub fn leave_test(
     second: &mut usize,
     third: &mut usize,
     fourth: &mut usize,
-) -> u8
-    ensures value { result ≡ returned (test_result tested) }
+) -> Result<(), Refusal>
+    ensures value { returned (reply_of result) ≡ returned (test_result tested) }
     ensures verdict_after { verdict.new ≡ leaves (test_result tested) (λ t. t.verdict) verdict.old }
     ensures dependency_after { dependency.new ≡ leaves (test_result tested) (λ t. t.dependency) dependency.old }
     ensures first_after { first.new ≡ leaves (test_result tested) (λ t. t.first) first.old }
@@ -78,7 +74,7 @@ pub fn leave_test(
             *second = 0;
             *third = 0;
             *fourth = 0;
-            0
+            Ok(())
         }
         Ok(
             Some(
@@ -95,7 +91,7 @@ pub fn leave_test(
             *second = j;
             *third = 0;
             *fourth = 0;
-            0
+            Ok(())
         }
         Ok(
             Some(
@@ -111,8 +107,8 @@ pub fn leave_test(
             *second = rows[1];
             *third = rows[2];
             *fourth = rows[3];
-            0
+            Ok(())
         }
-        Err(why) => u8::from(why),
+        Err(why) => Err(why),
     }
 }

@@ -87,7 +87,7 @@ fn read_parts(file: &[u8], n: usize) -> Result<Record, Refusal>
 }
 
 // The record of a file, or the first fault.
-fn read_record(file: &[u8]) -> Result<Record, Refusal>
+pub fn read_record(file: &[u8]) -> Result<Record, Refusal>
     ensures { reply_of result ≡ read_file file.now }
 {
     let n = read_directory(file)?;

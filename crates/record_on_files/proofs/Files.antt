@@ -57,49 +57,20 @@ result-refused o why a = rw a
 
 -- ---- a file that is read
 
--- What reading says gives the record back
-result-of : (x : Reply Record) → result_of (read_outcome x) ≡ x
-unfolding ◌>>=◌
-result-of (gives r) = refl
-result-of (refused n) = refl
+module _ (file : List ℕ) (bytes : (i : ℕ) → get_or file i 0 < 256) (r : Record) (read : gives r ≡ read_file file) where
+  back : (good_record r ≡ true) × (file_of r ≡ file)
+  back = let k = file-written-back file r (bytes-known file bytes) (sym read) in (k.0, k.2)
 
-returned-read : (x : Reply Record) → returned (read_outcome x).0 ≡ returned x
-returned-read (gives r) = refl
-returned-read (refused n) = refl
+  -- Its record is good
+  pub read-good : good_record r ≡ true
+  read-good = back.0
 
-module _ (file : List ℕ) (o : Outcome) (e : outcome_reply o ≡ read_outcome (read_file file)) where
-  -- The number of what reading says
-  pub read_number : returned (reply_of o.answer) ≡ returned (read_file file)
-  read_number = ap (λ (y : Reply (Unit {0}) × Record). returned y.0) e ∙ returned-read (read_file file)
+  -- and has room for 32 dependencies
+  pub read-long : length r.dependencies ≡ 32
+  read-long =
+      let k = file-written-back file r (bytes-known file bytes) (sym read) in
+      (sound-record r k.0 k.1).dependencies-long
 
-  -- The call goes on with the record of an accepted file
-  pub read_done : {A : Type 0} (next : Record → Reply A) → o.answer ≡ Ok tt → (read_file file >>= next) ≡ next o.«record»
-  read_done next a = goes_on (outcome-done (read_file file) o e a) next
-
-  -- and stops with the number of a refused one
-  pub read-refused : {A : Type 0} (next : Record → Reply A) (why : Refusal) (n : ℕ) → n ≡ number_of why → o.answer ≡ Err why
-      → (read_file file >>= next) ≡ refused n
-  read-refused next why n same a = still-refused (outcome-refused (read_file file) o why e a) next ∙ ap refused (sym same)
-
-  module _ (bytes : (i : ℕ) → get_or file i 0 < 256) where
-    pub read_back : (r : Record) → read_file file ≡ gives r → (good_record r ≡ true) × (file_of r ≡ file)
-    read_back r p = let k = file-written-back file r (bytes-known file bytes) p in (k.0, k.2)
-
-    -- The record of an accepted file is good
-    pub read-good : o.answer ≡ Ok tt → good_record o.«record» ≡ true
-    read-good a = (read_back o.«record» (outcome-done (read_file file) o e a)).0
-
-    -- and has room for 32 dependencies
-    pub read-long : o.answer ≡ Ok tt → length o.«record».dependencies ≡ 32
-    read-long a =
-        let k = file-written-back file o.«record» (bytes-known file bytes) (outcome-done (read_file file) o e a) in
-        (sound-record o.«record» k.0 k.1).dependencies-long
-
-    copied-from : (x : Reply Record) → read_file file ≡ x → (room : ℕ) → copied file room ≡ file_fitted room x
-    unfolding ◌>>=◌
-    copied-from (gives r) p room = rw (p, (read_back r p).1)
-    copied-from (refused n) p room = rw p
-
-    -- The file that is written back is the file
-    pub copied_is : (room : ℕ) → copied file room ≡ file_fitted room (result_of (outcome_reply o))
-    copied_is room = copied-from (read_file file) refl room ∙ ap (file_fitted room) (sym (ap result_of e ∙ result-of (read_file file)))
+  -- The file that is written back is the file
+  pub copied_is : (room : ℕ) → copied file room ≡ fitted room (file_of r)
+  copied_is room = goes_on (sym read) (λ _. fitted room file) ∙ ap (fitted room) (sym back.1)

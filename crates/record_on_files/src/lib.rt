@@ -1,16 +1,17 @@
 // The calls on the record alone, on files: a record is the bytes of its file, in and out.
-// Each returns 0, or the number of the refusal, which leaves every buffer and number that it is lent as it was.
+// A refusal leaves every buffer and number that a call is lent as it was.
 #![tactic(auto)]
 
 ghost use Rattle.std.specs.Prelude.{◌≡◌, true, length};
 ghost use Rattle.record.specs.Rule.{good_record};
 ghost use Rattle.record.specs.Calls.{outcome_reply, add_join};
 ghost use Rattle.format.specs.File.{file_of, read_file};
+ghost use Rattle.refusals.specs.Refusal.{reply_of};
 ghost use Rattle.lent_numbers.specs.Lent.{fitted, returned, leaves, Wrote};
 ghost use Rattle.record_on_files.specs.Records.{result_of, file_fitted, join_with, put_part, copied, opened, added, added_join, put_in, dropped, determined_in};
 ghost use Rattle.record_on_files.specs.internal.Steps.{GoodIfDone};
 
-use lent_numbers::{leave_columns, leave_count, number_of};
+use lent_numbers::{leave_columns, leave_count};
 use query::{Dependency, JoinDependency};
 use record::calls::refused;
 use record::{Outcome, Record};
@@ -20,22 +21,20 @@ use writer::write_good;
 // ---- what is stored
 
 // Writes the file of a record into the buffer and its length into the number.
-pub fn store(given: Record, out: &mut [u8], size: &mut usize) -> u8
+pub fn store(given: Record, out: &mut [u8], size: &mut usize) -> Result<(), Refusal>
     requires { good_record given ≡ true }
-    ensures { Wrote (fitted (length out.old) (file_of given)) out.old size.old result out.new size.new }
+    ensures { Wrote (fitted (length out.old) (file_of given)) out.old size.old (returned (reply_of result)) out.new size.new }
 {
     leave_count(write_good(given, out), size)
 }
 
 // Stores the record of a call, unless it is refused.
-pub fn store_outcome(outcome: Outcome, out: &mut [u8], size: &mut usize) -> u8
+pub fn store_outcome(outcome: Outcome, out: &mut [u8], size: &mut usize) -> Result<(), Refusal>
     requires { GoodIfDone outcome }
-    ensures { Wrote (file_fitted (length out.old) (result_of (outcome_reply outcome))) out.old size.old result out.new size.new }
+    ensures { Wrote (file_fitted (length out.old) (result_of (outcome_reply outcome))) out.old size.old (returned (reply_of result)) out.new size.new }
 {
-    match outcome.answer {
-        Ok(()) => store(outcome.record, out, size),
-        Err(refusal) => u8::from(refusal),
-    }
+    outcome.answer?;
+    store(outcome.record, out, size)
 }
 
 // Puts the query of a query part into a vacant place: a place above 7 is refused before a bad part.
@@ -74,24 +73,25 @@ pub fn add_sets(given: Record, relation: u8, sets: &[u8]) -> Outcome
 // ---- files
 
 // Whether the bytes are a file.
-pub fn check_file(file: &[u8]) -> u8
-    ensures { result ≡ returned (read_file file.now) }
+pub fn check_file(file: &[u8]) -> Result<(), Refusal>
+    ensures { returned (reply_of result) ≡ returned (read_file file.now) }
 {
-    number_of(file::read(file).answer)
+    file::read_record(file)?;
+    Ok(())
 }
 
 // Reads a file and writes its record back.
-pub fn copy_file(file: &[u8], out: &mut [u8], size: &mut usize) -> u8
-    ensures { Wrote (copied file.now (length out.old)) out.old size.old result out.new size.new }
+pub fn copy_file(file: &[u8], out: &mut [u8], size: &mut usize) -> Result<(), Refusal>
+    ensures { Wrote (copied file.now (length out.old)) out.old size.old (returned (reply_of result)) out.new size.new }
 {
-    store_outcome(file::read(file), out, size)
+    store(file::read_record(file)?, out, size)
 }
 
 // ---- the record
 
 // Opens a record from relation widths.
-pub fn open_file(widths: &[u8], out: &mut [u8], size: &mut usize) -> u8
-    ensures { Wrote (opened widths.now (length out.old)) out.old size.old result out.new size.new }
+pub fn open_file(widths: &[u8], out: &mut [u8], size: &mut usize) -> Result<(), Refusal>
+    ensures { Wrote (opened widths.now (length out.old)) out.old size.old (returned (reply_of result)) out.new size.new }
 {
     store_outcome(record_calls::open(widths), out, size)
 }
@@ -104,22 +104,16 @@ pub fn add_in_file(
     right: u8,
     out: &mut [u8],
     size: &mut usize,
-) -> u8
-    ensures { Wrote (added file.now relation left right (length out.old)) out.old size.old result out.new size.new }
+) -> Result<(), Refusal>
+    ensures { Wrote (added file.now relation left right (length out.old)) out.old size.old (returned (reply_of result)) out.new size.new }
 {
-    let outcome = file::read(file);
-    match outcome.answer {
-        Ok(()) => {
-            let given = outcome.record;
-            let d = Dependency {
-                relation,
-                left,
-                right,
-            };
-            store_outcome(given.add_dependency(d), out, size)
-        }
-        Err(refusal) => u8::from(refusal),
-    }
+    let given = file::read_record(file)?;
+    let d = Dependency {
+        relation,
+        left,
+        right,
+    };
+    store_outcome(given.add_dependency(d), out, size)
 }
 
 // Adds a join dependency, a byte for each set, after those held.
@@ -129,39 +123,41 @@ pub fn add_join_in_file(
     sets: &[u8],
     out: &mut [u8],
     size: &mut usize,
-) -> u8
-    ensures { Wrote (added_join file.now relation sets.now (length out.old)) out.old size.old result
+) -> Result<(), Refusal>
+    ensures { Wrote (added_join file.now relation sets.now (length out.old)) out.old size.old (returned (reply_of result))
         out.new size.new }
 {
-    let outcome = file::read(file);
-    match outcome.answer {
-        Ok(()) => store_outcome(add_sets(outcome.record, relation, sets), out, size),
-        Err(refusal) => u8::from(refusal),
-    }
+    let given = file::read_record(file)?;
+    store_outcome(add_sets(given, relation, sets), out, size)
 }
 
 // Puts a query, the bytes of a query part, into a vacant place.
-pub fn put_in_file(file: &[u8], place: usize, query: &[u8], out: &mut [u8], size: &mut usize) -> u8
-    ensures { Wrote (put_in file.now place query.now (length out.old)) out.old size.old result
+pub fn put_in_file(
+    file: &[u8],
+    place: usize,
+    query: &[u8],
+    out: &mut [u8],
+    size: &mut usize,
+) -> Result<(), Refusal>
+    ensures { Wrote (put_in file.now place query.now (length out.old)) out.old size.old (returned (reply_of result))
         out.new size.new }
 {
-    let outcome = file::read(file);
-    match outcome.answer {
-        Ok(()) => store_outcome(put_part(outcome.record, place, query), out, size),
-        Err(refusal) => u8::from(refusal),
-    }
+    let given = file::read_record(file)?;
+    store_outcome(put_part(given, place, query), out, size)
 }
 
 // Drops a filled place.
-pub fn drop_in_file(file: &[u8], place: usize, out: &mut [u8], size: &mut usize) -> u8
-    ensures { Wrote (dropped file.now place (length out.old)) out.old size.old result out.new
+pub fn drop_in_file(
+    file: &[u8],
+    place: usize,
+    out: &mut [u8],
+    size: &mut usize,
+) -> Result<(), Refusal>
+    ensures { Wrote (dropped file.now place (length out.old)) out.old size.old (returned (reply_of result)) out.new
         size.new }
 {
-    let outcome = file::read(file);
-    match outcome.answer {
-        Ok(()) => store_outcome(record_calls::drop_query(outcome.record, place), out, size),
-        Err(refusal) => u8::from(refusal),
-    }
+    let given = file::read_record(file)?;
+    store_outcome(record_calls::drop_query(given, place), out, size)
 }
 
 // The columns that a left set determines, bit c for column c, and their number.
@@ -171,21 +167,15 @@ pub fn determined_in_file(
     left: u8,
     columns: &mut u8,
     count: &mut u8,
-) -> u8
-    ensures value { result ≡ returned (determined_in file.now relation left) }
+) -> Result<(), Refusal>
+    ensures value { returned (reply_of result) ≡ returned (determined_in file.now relation left) }
     ensures columns_after { columns.new ≡ leaves (determined_in file.now relation left) (λ s. s.0) columns.old }
     ensures count_after { count.new ≡ leaves (determined_in file.now relation left) (λ s. s.1) count.old }
 {
-    let outcome = file::read(file);
-    match outcome.answer {
-        Ok(()) => {
-            let given = outcome.record;
-            leave_columns(
-                record_calls::determined(given, relation, left),
-                columns,
-                count,
-            )
-        }
-        Err(refusal) => u8::from(refusal),
-    }
+    let given = file::read_record(file)?;
+    leave_columns(
+        record_calls::determined(given, relation, left),
+        columns,
+        count,
+    )
 }

@@ -68,7 +68,7 @@ pub returns-in-Err : goal.returns-in-Err
 returns-in-Err c =
     let p = still-refused (ap reply_of c.in-Err.is) next in
     record {
-      value = c.from.ensures ∙ refused-number p;
+      value = refused-number p;
       verdict_after = refused-leaves p (λ t. t.verdict) _;
       dependency_after = refused-leaves p (λ t. t.dependency) _;
       first_after = refused-leaves p (λ t. t.first) _;

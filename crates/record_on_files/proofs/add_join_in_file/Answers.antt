@@ -1,37 +1,28 @@
--- `spernevan_add_join` gives the file with the join dependency, once the file is read. Assumes nothing.
-use mathlib.Core.Path.{sym, ap, ◌∙◌}
-use lib.ListN.{length}
-use Rattle.format.specs.File.{file_of}
+-- `add_join_in_file` gives the file with the join dependency, once the file is read. Assumes nothing.
+use Rattle.std.proofs.Common.{length, sym, ap, ◌∙◌}
+use Rattle.std.proofs.lemmas.Result.{err_from_is_err_and}
 use Rattle.lent_numbers.specs.Lent.{fitted}
+use Rattle.format.specs.File.{file_of}
 use Rattle.record.specs.Calls.{add_join}
 use Rattle.record_on_files.specs.Records.{result_of, file_fitted, join_with}
-use Rattle.record_on_files.proofs.Files.{read_done, read-refused, read-good}
-use Rattle.lent_numbers.proofs.Lent.{still-refused, wrote-same, wrote_none}
+use Rattle.record_on_files.proofs.Files.{read-good}
+use Rattle.lent_numbers.proofs.Lent.{goes_on, still-refused, wrote-same, wrote_err}
 use Rattle.record_on_files.proofs.add_join_in_file.Goals as goal
 
 pub add_sets-requires : goal.add_sets-requires
-add_sets-requires c =
-    read-good c.args.file.now c.read-outcome.result
-    c.read-outcome.ensures (λ i. (c.type_inv.file i).fits)
-    c.in-Ok.is
+add_sets-requires c = read-good c.args.file.now (λ i. (c.type_inv.file i).fits) c.in_ok-given.given c.in_ok-given.ensures
 
 pub store_outcome-requires : goal.store_outcome-requires
-store_outcome-requires c =
-    c.add_sets.ensures.1
+store_outcome-requires c = c.add_sets.ensures.1
 
-pub returns-in-Ok : goal.returns-in-Ok
-returns-in-Ok c =
-    let s = c in
-    let out = s.args.out.now in
-    wrote-same (ap (file_fitted (length out)) (read_done s.args.file.now
-    c.read-outcome.result
-    c.read-outcome.ensures (λ r. result_of (add_join r (join_with s.args.relation s.args.sets.now)))
-    c.in-Ok.is ∙ ap result_of (sym c.add_sets.ensures.0)))
-    out s.args.size.now _ _ _ c.store_outcome.ensures
+pub returns-in_err-given : goal.returns-in_err-given
+returns-in_err-given c =
+    wrote_err c.from_residual.result c.in_err-given.field-0.0 (err_from_is_err_and c.from_residual.result c.from_residual.ensures.1)
+    (still-refused (still-refused (sym c.in_err-given.ensures) (λ r. result_of (add_join r (join_with c.args.relation c.args.sets.now)))) (λ r. fitted (length c.args.out.now) (file_of r)))
+    c.args.out.now c.args.size.now
 
-pub returns-in-Err : goal.returns-in-Err
-returns-in-Err c =
-    let s = c in
-    let out = s.args.out.now in
-    wrote_none (still-refused (read-refused s.args.file.now c.read-outcome.result c.read-outcome.ensures
-    (λ r. result_of (add_join r (join_with s.args.relation s.args.sets.now))) c.in-Err.refusal c.from.result c.from.ensures c.in-Err.is) (λ r. fitted (length out) (file_of r))) out s.args.size.now
+pub returns : goal.returns
+returns c =
+    let out = c.args.out.now in
+    wrote-same (ap (file_fitted (length out)) (goes_on (sym c.in_ok-given.ensures) (λ r. result_of (add_join r (join_with c.args.relation c.args.sets.now))) ∙ ap result_of (sym c.add_sets.ensures.0)))
+    out c.args.size.now _ _ _ c.store_outcome.ensures

@@ -1,37 +1,28 @@
--- `spernevan_drop` gives the file without the place, once the file is read. Assumes nothing.
-use mathlib.Core.Path.{sym, ap, ◌∙◌}
-use lib.ListN.{length}
-use Rattle.record_calls.specs.Calls.{drop_query}
-use Rattle.format.specs.File.{file_of}
+-- `drop_in_file` gives the file without the place, once the file is read. Assumes nothing.
+use Rattle.std.proofs.Common.{length, sym, ap, ◌∙◌}
+use Rattle.std.proofs.lemmas.Result.{err_from_is_err_and}
 use Rattle.lent_numbers.specs.Lent.{fitted}
+use Rattle.format.specs.File.{file_of}
+use Rattle.record_calls.specs.Calls.{drop_query}
 use Rattle.record_on_files.specs.Records.{result_of, file_fitted}
-use Rattle.record_on_files.proofs.Files.{read_done, read-refused, read-good}
-use Rattle.lent_numbers.proofs.Lent.{still-refused, wrote-same, wrote_none}
+use Rattle.record_on_files.proofs.Files.{read-good}
 use Rattle.record_on_files.proofs.Kept.{drop-sound}
+use Rattle.lent_numbers.proofs.Lent.{goes_on, still-refused, wrote-same, wrote_err}
 use Rattle.record_on_files.proofs.drop_in_file.Goals as goal
 
 pub store_outcome-requires : goal.store_outcome-requires
 store_outcome-requires c =
-    let s = c in
-    drop-sound c.read-outcome.result.«record»
-    (read-good s.args.file.now c.read-outcome.result
-    c.read-outcome.ensures (λ i.
-    (c.type_inv.file i).fits)
-    c.in-Ok.is) _ c.drop_query.result c.drop_query.ensures
+    drop-sound c.in_ok-given.given (read-good c.args.file.now (λ i. (c.type_inv.file i).fits) c.in_ok-given.given c.in_ok-given.ensures)
+    _ c.drop_query.result c.drop_query.ensures
 
-pub returns-in-Ok : goal.returns-in-Ok
-returns-in-Ok c =
-    let s = c in
-    let out = s.args.out.now in
-    wrote-same (ap (file_fitted (length out)) (read_done s.args.file.now
-    c.read-outcome.result
-    c.read-outcome.ensures (λ r. result_of (drop_query r s.args.place))
-    c.in-Ok.is ∙ ap result_of
-    (sym c.drop_query.ensures))) out s.args.size.now _ _ _ c.store_outcome.ensures
+pub returns-in_err-given : goal.returns-in_err-given
+returns-in_err-given c =
+    wrote_err c.from_residual.result c.in_err-given.field-0.0 (err_from_is_err_and c.from_residual.result c.from_residual.ensures.1)
+    (still-refused (still-refused (sym c.in_err-given.ensures) (λ r. result_of (drop_query r c.args.place))) (λ r. fitted (length c.args.out.now) (file_of r)))
+    c.args.out.now c.args.size.now
 
-pub returns-in-Err : goal.returns-in-Err
-returns-in-Err c =
-    let s = c in
-    let out = s.args.out.now in
-    wrote_none (still-refused (read-refused s.args.file.now c.read-outcome.result c.read-outcome.ensures
-    (λ r. result_of (drop_query r s.args.place)) c.in-Err.refusal c.from.result c.from.ensures c.in-Err.is) (λ r. fitted (length out) (file_of r))) out s.args.size.now
+pub returns : goal.returns
+returns c =
+    let out = c.args.out.now in
+    wrote-same (ap (file_fitted (length out)) (goes_on (sym c.in_ok-given.ensures) (λ r. result_of (drop_query r c.args.place)) ∙ ap result_of (sym c.drop_query.ensures)))
+    out c.args.size.now _ _ _ c.store_outcome.ensures

@@ -1,4 +1,4 @@
--- `spernevan_open` gives the file of the record that is opened. Assumes nothing.
+-- `open_file` gives the file of the record that is opened. Assumes nothing.
 use mathlib.Core.Path.{sym, ap}
 use lib.ListN.{length}
 use Rattle.record_on_files.specs.Records.{result_of, file_fitted}
