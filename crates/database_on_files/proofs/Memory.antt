@@ -4,12 +4,9 @@ use mathlib.Core.List.{List}
 use mathlib.Core.Option.{Option, none, some}
 use Prim.Native.Nat.{ℕ}
 use Rattle.record.specs.declared.Record.{Record}
-use Rattle.std.specs.Prelude.{Ok}
-use Rattle.record.specs.declared.Outcome.{Outcome}
-use Rattle.record.specs.Calls.{outcome_reply}
-use Rattle.refusals.specs.Refusals.{Condition, first_holding, Reply, reply, refusal_in}
-use Rattle.format.specs.File.{read_file, read_outcome}
-use Rattle.record_on_files.proofs.Files.{read_done}
+use Rattle.refusals.specs.Refusals.{Condition, first_holding, Reply, gives, reply, refusal_in}
+use Rattle.format.specs.File.{read_file}
+use Rattle.lent_numbers.proofs.Lent.{goes_on}
 use Rattle.database.specs.Calls.{UnusedIfRefused}
 use Rattle.database_on_files.specs.Databases.{UnusedInFile}
 
@@ -19,9 +16,12 @@ reply-refusal none r = refl
 reply-refusal (some n) r = refl
 
 -- Once the file is read the conditions are those on its record
-pub unused-read : (file : List ℕ) (o : Outcome) → outcome_reply o ≡ read_outcome (read_file file) → o.answer ≡ Ok tt
-    → (conditions : Record → List Condition) (before after : List ℕ) → UnusedIfRefused (conditions o.«record») before after
-    → UnusedInFile file conditions before after
-unused-read file o e a conditions before after unused n p =
+pub unused-read : (file : List ℕ) (r : Record) → gives r ≡ read_file file → (conditions : Record → List Condition) (before after : List ℕ)
+    → UnusedIfRefused (conditions r) before after → UnusedInFile file conditions before after
+unused-read file r e conditions before after unused n p =
     let next : Record → Reply Record = λ r. reply (first_holding (conditions r)) r in
-    unused n (sym (reply-refusal (first_holding (conditions o.«record»)) o.«record») ∙ ap refusal_in (sym (read_done file o e next a)) ∙ p)
+    unused n (sym (reply-refusal (first_holding (conditions r)) r) ∙ ap refusal_in (sym (goes_on (sym e) next)) ∙ p)
+
+-- and where the file is refused nothing is touched
+pub untouched : (file : List ℕ) (conditions : Record → List Condition) (before : List ℕ) → UnusedInFile file conditions before before
+untouched file conditions before n p = refl

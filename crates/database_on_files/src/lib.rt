@@ -1,11 +1,14 @@
-// Testing a database, evaluating a place on it and counting its answers, on files. Each returns 0, or the number of the refusal, which leaves every buffer
-// and number that it is lent as it was; working memory too, unless the number is 10.
+// Testing a database, evaluating a place on it and counting its answers, on files. A refusal leaves every buffer and number that a call is lent as it was;
+// working memory too, unless it is for want of room.
 #![tactic(auto)]
 
 ghost use Rattle.std.specs.Prelude.{◌≡◌, length};
 ghost use Rattle.admission.specs.Conditions.{test_conditions, search_conditions};
+ghost use Rattle.refusals.specs.Refusal.{reply_of};
 ghost use Rattle.lent_numbers.specs.Lent.{returned, leaves};
 ghost use Rattle.database_on_files.specs.Databases.{tested_in, evaluated_in, answers_left, counted_in, UnusedInFile};
+
+use refusals::Refusal;
 
 // Tests a database against the dependencies. Working memory is lent for the tables.
 pub fn test_in_file_lent(
@@ -19,8 +22,8 @@ pub fn test_in_file_lent(
     second: &mut usize,
     third: &mut usize,
     fourth: &mut usize,
-) -> u8
-    ensures value { result ≡ returned (tested_in file.now words.now) }
+) -> Result<(), Refusal>
+    ensures value { returned (reply_of result) ≡ returned (tested_in file.now words.now) }
     ensures verdict_after { verdict.new ≡ leaves (tested_in file.now words.now) (λ t. t.verdict) verdict.old }
     ensures dependency_after { dependency.new ≡ leaves (tested_in file.now words.now) (λ t. t.dependency) dependency.old }
     ensures first_after { first.new ≡ leaves (tested_in file.now words.now) (λ t. t.first) first.old }
@@ -30,15 +33,9 @@ pub fn test_in_file_lent(
     ensures unused_in_file { UnusedInFile file.now (λ r. test_conditions r words.now) heads.old heads.new }
     ensures unused_in_file_2 { UnusedInFile file.now (λ r. test_conditions r words.now) nodes.old nodes.new }
 {
-    let outcome = file::read(file);
-    match outcome.answer {
-        Ok(()) => {
-            let given = outcome.record;
-            let found = database::test_lent(given, words, heads, nodes);
-            lent_numbers::leave_test(found, verdict, dependency, first, second, third, fourth)
-        }
-        Err(refusal) => u8::from(refusal),
-    }
+    let given = file::read_record(file)?;
+    let found = database::test_lent(given, words, heads, nodes);
+    lent_numbers::leave_test(found, verdict, dependency, first, second, third, fourth)
 }
 
 // As `test_in_file_lent`, with working memory of its own.
@@ -51,8 +48,8 @@ pub fn test_in_file(
     second: &mut usize,
     third: &mut usize,
     fourth: &mut usize,
-) -> u8
-    ensures value { result ≡ returned (tested_in file.now words.now) }
+) -> Result<(), Refusal>
+    ensures value { returned (reply_of result) ≡ returned (tested_in file.now words.now) }
     ensures verdict_after { verdict.new ≡ leaves (tested_in file.now words.now) (λ t. t.verdict) verdict.old }
     ensures dependency_after { dependency.new ≡ leaves (tested_in file.now words.now) (λ t. t.dependency) dependency.old }
     ensures first_after { first.new ≡ leaves (tested_in file.now words.now) (λ t. t.first) first.old }
@@ -60,15 +57,9 @@ pub fn test_in_file(
     ensures third_after { third.new ≡ leaves (tested_in file.now words.now) (λ t. t.third) third.old }
     ensures fourth_after { fourth.new ≡ leaves (tested_in file.now words.now) (λ t. t.fourth) fourth.old }
 {
-    let outcome = file::read(file);
-    match outcome.answer {
-        Ok(()) => {
-            let given = outcome.record;
-            let found = database::test(given, words);
-            lent_numbers::leave_test(found, verdict, dependency, first, second, third, fourth)
-        }
-        Err(refusal) => u8::from(refusal),
-    }
+    let given = file::read_record(file)?;
+    let found = database::test(given, words);
+    lent_numbers::leave_test(found, verdict, dependency, first, second, third, fourth)
 }
 
 // Evaluates the query of a place on a database. Working memory is lent for the index, the states of the search, a batch of answers and its sorting.
@@ -82,8 +73,8 @@ pub fn evaluate_in_file_lent(
     batch: &mut [u32],
     scratch: &mut [u32],
     count: &mut usize,
-) -> u8
-    ensures value { result ≡ returned (evaluated_in file.now place words.now (length answers.old)) }
+) -> Result<(), Refusal>
+    ensures value { returned (reply_of result) ≡ returned (evaluated_in file.now place words.now (length answers.old)) }
     ensures answers_after { answers.new ≡ answers_left file.now place words.now answers.old }
     ensures count_after { count.new ≡ leaves (evaluated_in file.now place words.now (length answers.old)) (λ n. n)
         count.old }
@@ -92,17 +83,9 @@ pub fn evaluate_in_file_lent(
     ensures unused_in_file_3 { UnusedInFile file.now (λ r. search_conditions r place words.now) batch.old batch.new }
     ensures unused_in_file_4 { UnusedInFile file.now (λ r. search_conditions r place words.now) scratch.old scratch.new }
 {
-    let outcome = file::read(file);
-    match outcome.answer {
-        Ok(()) => {
-            let given = outcome.record;
-            let done = database::evaluate_lent(
-                given, place, words, answers, index, states, batch, scratch,
-            );
-            lent_numbers::leave_count(done, count)
-        }
-        Err(refusal) => u8::from(refusal),
-    }
+    let given = file::read_record(file)?;
+    let done = database::evaluate_lent(given, place, words, answers, index, states, batch, scratch);
+    lent_numbers::leave_count(done, count)
 }
 
 // As `evaluate_in_file_lent`, with working memory of its own.
@@ -112,21 +95,15 @@ pub fn evaluate_in_file(
     words: &[u32],
     answers: &mut [u32],
     count: &mut usize,
-) -> u8
-    ensures value { result ≡ returned (evaluated_in file.now place words.now (length answers.old)) }
+) -> Result<(), Refusal>
+    ensures value { returned (reply_of result) ≡ returned (evaluated_in file.now place words.now (length answers.old)) }
     ensures answers_after { answers.new ≡ answers_left file.now place words.now answers.old }
     ensures count_after { count.new ≡ leaves (evaluated_in file.now place words.now (length answers.old)) (λ n. n)
         count.old }
 {
-    let outcome = file::read(file);
-    match outcome.answer {
-        Ok(()) => {
-            let given = outcome.record;
-            let done = database::evaluate(given, place, words, answers);
-            lent_numbers::leave_count(done, count)
-        }
-        Err(refusal) => u8::from(refusal),
-    }
+    let given = file::read_record(file)?;
+    let done = database::evaluate(given, place, words, answers);
+    lent_numbers::leave_count(done, count)
 }
 
 // Counts the answers of the query of a place on a database. Working memory is lent as for an evaluation.
@@ -139,37 +116,30 @@ pub fn count_in_file_lent(
     batch: &mut [u32],
     scratch: &mut [u32],
     count: &mut usize,
-) -> u8
-    ensures value { result ≡ returned (counted_in file.now place words.now) }
+) -> Result<(), Refusal>
+    ensures value { returned (reply_of result) ≡ returned (counted_in file.now place words.now) }
     ensures count_after { count.new ≡ leaves (counted_in file.now place words.now) (λ n. n) count.old }
     ensures unused_in_file { UnusedInFile file.now (λ r. search_conditions r place words.now) index.old index.new }
     ensures unused_in_file_2 { UnusedInFile file.now (λ r. search_conditions r place words.now) states.old states.new }
     ensures unused_in_file_3 { UnusedInFile file.now (λ r. search_conditions r place words.now) batch.old batch.new }
     ensures unused_in_file_4 { UnusedInFile file.now (λ r. search_conditions r place words.now) scratch.old scratch.new }
 {
-    let outcome = file::read(file);
-    match outcome.answer {
-        Ok(()) => {
-            let given = outcome.record;
-            let done = database::count_lent(given, place, words, index, states, batch, scratch);
-            lent_numbers::leave_count(done, count)
-        }
-        Err(refusal) => u8::from(refusal),
-    }
+    let given = file::read_record(file)?;
+    let done = database::count_lent(given, place, words, index, states, batch, scratch);
+    lent_numbers::leave_count(done, count)
 }
 
 // As `count_in_file_lent`, with working memory of its own.
-pub fn count_in_file(file: &[u8], place: usize, words: &[u32], count: &mut usize) -> u8
-    ensures value { result ≡ returned (counted_in file.now place words.now) }
+pub fn count_in_file(
+    file: &[u8],
+    place: usize,
+    words: &[u32],
+    count: &mut usize,
+) -> Result<(), Refusal>
+    ensures value { returned (reply_of result) ≡ returned (counted_in file.now place words.now) }
     ensures count_after { count.new ≡ leaves (counted_in file.now place words.now) (λ n. n) count.old }
 {
-    let outcome = file::read(file);
-    match outcome.answer {
-        Ok(()) => {
-            let given = outcome.record;
-            let done = database::count(given, place, words);
-            lent_numbers::leave_count(done, count)
-        }
-        Err(refusal) => u8::from(refusal),
-    }
+    let given = file::read_record(file)?;
+    let done = database::count(given, place, words);
+    lent_numbers::leave_count(done, count)
 }

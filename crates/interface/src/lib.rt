@@ -11,6 +11,8 @@ ghost use Rattle.comparison_on_files.specs.Queries.{CompareGives, checked_in, bi
 ghost use Rattle.admission.specs.Conditions.{test_conditions, search_conditions};
 ghost use Rattle.database_on_files.specs.Databases.{tested_in, evaluated_in, answers_left, counted_in, UnusedInFile};
 
+use lent_numbers::number_of;
+
 // ---- files
 
 // Whether the bytes are a file.
@@ -18,7 +20,7 @@ ghost use Rattle.database_on_files.specs.Databases.{tested_in, evaluated_in, ans
 pub extern "C" fn spernevan_read(file: &[u8]) -> u8
     ensures { result ≡ returned (read_file file.now) }
 {
-    record_on_files::check_file(file)
+    number_of(record_on_files::check_file(file))
 }
 
 // Reads a file and writes its record back.
@@ -26,7 +28,7 @@ pub extern "C" fn spernevan_read(file: &[u8]) -> u8
 pub extern "C" fn spernevan_write(file: &[u8], out: &mut [u8], size: &mut usize) -> u8
     ensures { Wrote (copied file.now (length out.old)) out.old size.old result out.new size.new }
 {
-    record_on_files::copy_file(file, out, size)
+    number_of(record_on_files::copy_file(file, out, size))
 }
 
 // ---- the record
@@ -36,7 +38,7 @@ pub extern "C" fn spernevan_write(file: &[u8], out: &mut [u8], size: &mut usize)
 pub extern "C" fn spernevan_open(widths: &[u8], out: &mut [u8], size: &mut usize) -> u8
     ensures { Wrote (opened widths.now (length out.old)) out.old size.old result out.new size.new }
 {
-    record_on_files::open_file(widths, out, size)
+    number_of(record_on_files::open_file(widths, out, size))
 }
 
 // Adds a functional dependency after those held.
@@ -51,7 +53,7 @@ pub extern "C" fn spernevan_add(
 ) -> u8
     ensures { Wrote (added file.now relation left right (length out.old)) out.old size.old result out.new size.new }
 {
-    record_on_files::add_in_file(file, relation, left, right, out, size)
+    number_of(record_on_files::add_in_file(file, relation, left, right, out, size))
 }
 
 // Adds a join dependency, a byte for each set, after those held.
@@ -66,7 +68,7 @@ pub extern "C" fn spernevan_add_join(
     ensures { Wrote (added_join file.now relation sets.now (length out.old)) out.old size.old result
         out.new size.new }
 {
-    record_on_files::add_join_in_file(file, relation, sets, out, size)
+    number_of(record_on_files::add_join_in_file(file, relation, sets, out, size))
 }
 
 // Puts a query, the bytes of a query part, into a vacant place.
@@ -81,7 +83,7 @@ pub extern "C" fn spernevan_put(
     ensures { Wrote (put_in file.now place query.now (length out.old)) out.old size.old result
         out.new size.new }
 {
-    record_on_files::put_in_file(file, place, query, out, size)
+    number_of(record_on_files::put_in_file(file, place, query, out, size))
 }
 
 // Drops a filled place.
@@ -90,7 +92,7 @@ pub extern "C" fn spernevan_drop(file: &[u8], place: usize, out: &mut [u8], size
     ensures { Wrote (dropped file.now place (length out.old)) out.old size.old result out.new
         size.new }
 {
-    record_on_files::drop_in_file(file, place, out, size)
+    number_of(record_on_files::drop_in_file(file, place, out, size))
 }
 
 // The columns that a left set determines, bit c for column c, and their number.
@@ -106,7 +108,7 @@ pub extern "C" fn spernevan_determined(
     ensures columns_after { columns.new ≡ leaves (determined_in file.now relation left) (λ s. s.0) columns.old }
     ensures count_after { count.new ≡ leaves (determined_in file.now relation left) (λ s. s.1) count.old }
 {
-    record_on_files::determined_in_file(file, relation, left, columns, count)
+    number_of(record_on_files::determined_in_file(file, relation, left, columns, count))
 }
 
 // ---- queries
@@ -125,7 +127,7 @@ pub extern "C" fn spernevan_reduce(
     ensures { ReduceGives file.now source target out.old size.old count.old mapping.old result
         out.new size.new count.new mapping.new }
 {
-    reduction_on_files::reduce_in_file(file, source, target, out, size, count, mapping)
+    number_of(reduction_on_files::reduce_in_file(file, source, target, out, size, count, mapping))
 }
 
 // Compares the queries of two places.
@@ -142,7 +144,7 @@ pub extern "C" fn spernevan_compare(
     ensures { CompareGives file.now p q verdict.old mapping.old query.old size.old result
         verdict.new mapping.new query.new size.new }
 {
-    comparison_on_files::compare_in_file(file, p, q, verdict, mapping, query, size)
+    number_of(comparison_on_files::compare_in_file(file, p, q, verdict, mapping, query, size))
 }
 
 // Checks a mapping from the query of place q to that of place p.
@@ -157,7 +159,7 @@ pub extern "C" fn spernevan_check(
     ensures value { result ≡ returned (checked_in file.now p q mapping.now) }
     ensures verdict_after { verdict.new ≡ leaves (checked_in file.now p q mapping.now) bit verdict.old }
 {
-    comparison_on_files::check_in_file(file, p, q, mapping, verdict)
+    number_of(comparison_on_files::check_in_file(file, p, q, mapping, verdict))
 }
 
 // ---- databases
@@ -182,9 +184,9 @@ pub extern "C" fn spernevan_test(
     ensures third_after { third.new ≡ leaves (tested_in file.now words.now) (λ t. t.third) third.old }
     ensures fourth_after { fourth.new ≡ leaves (tested_in file.now words.now) (λ t. t.fourth) fourth.old }
 {
-    database_on_files::test_in_file(
+    number_of(database_on_files::test_in_file(
         file, words, verdict, dependency, first, second, third, fourth,
-    )
+    ))
 }
 
 // Tests a database against the dependencies, with lent working memory.
@@ -211,9 +213,9 @@ pub extern "C" fn spernevan_test_lent(
     ensures unused_in_file { UnusedInFile file.now (λ r. test_conditions r words.now) heads.old heads.new }
     ensures unused_in_file_2 { UnusedInFile file.now (λ r. test_conditions r words.now) nodes.old nodes.new }
 {
-    database_on_files::test_in_file_lent(
+    number_of(database_on_files::test_in_file_lent(
         file, words, heads, nodes, verdict, dependency, first, second, third, fourth,
-    )
+    ))
 }
 
 // Evaluates the query of a place on a database.
@@ -230,7 +232,7 @@ pub extern "C" fn spernevan_evaluate(
     ensures count_after { count.new ≡ leaves (evaluated_in file.now place words.now (length answers.old)) (λ n. n)
         count.old }
 {
-    database_on_files::evaluate_in_file(file, place, words, answers, count)
+    number_of(database_on_files::evaluate_in_file(file, place, words, answers, count))
 }
 
 // Evaluates the query of a place on a database, with lent working memory.
@@ -255,9 +257,9 @@ pub extern "C" fn spernevan_evaluate_lent(
     ensures unused_in_file_3 { UnusedInFile file.now (λ r. search_conditions r place words.now) batch.old batch.new }
     ensures unused_in_file_4 { UnusedInFile file.now (λ r. search_conditions r place words.now) scratch.old scratch.new }
 {
-    database_on_files::evaluate_in_file_lent(
+    number_of(database_on_files::evaluate_in_file_lent(
         file, place, words, answers, index, states, batch, scratch, count,
-    )
+    ))
 }
 
 // Counts the answers of the query of a place on a database.
@@ -266,7 +268,7 @@ pub extern "C" fn spernevan_count(file: &[u8], place: usize, words: &[u32], coun
     ensures value { result ≡ returned (counted_in file.now place words.now) }
     ensures count_after { count.new ≡ leaves (counted_in file.now place words.now) (λ n. n) count.old }
 {
-    database_on_files::count_in_file(file, place, words, count)
+    number_of(database_on_files::count_in_file(file, place, words, count))
 }
 
 // Counts the answers of the query of a place on a database, with lent working memory.
@@ -288,5 +290,7 @@ pub extern "C" fn spernevan_count_lent(
     ensures unused_in_file_3 { UnusedInFile file.now (λ r. search_conditions r place words.now) batch.old batch.new }
     ensures unused_in_file_4 { UnusedInFile file.now (λ r. search_conditions r place words.now) scratch.old scratch.new }
 {
-    database_on_files::count_in_file_lent(file, place, words, index, states, batch, scratch, count)
+    number_of(database_on_files::count_in_file_lent(
+        file, place, words, index, states, batch, scratch, count,
+    ))
 }

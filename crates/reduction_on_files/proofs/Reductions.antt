@@ -12,7 +12,8 @@ use Rattle.refusals.specs.Refusals.{◌>>=◌, buffer_too_short, gives, refused,
 use Rattle.refusals.proofs.Refusals.{refused-gives}
 use Rattle.query.specs.declared.Cell.{Cell}
 use Rattle.record.specs.declared.Record.{Record}
-use Rattle.std.specs.Prelude.{Ok, Err}
+use Rattle.std.specs.Prelude.{Result, Ok, Err}
+use Rattle.lent_numbers.specs.Lent.{returned}
 use Rattle.record.specs.Rule.{good_record}
 use Rattle.refusals.specs.declared.Refusal.{Refusal}
 use Rattle.refusals.specs.Refusal.{number_of, reply_of}
@@ -37,9 +38,14 @@ module _ (o : Reduced) (out : List ℕ) (size count : ℕ) (mapping : List ℕ) 
   pub reduction-none : {x : Reply Reduced} {n : ℕ} → x ≡ refused n → ReductionGiven x out size count mapping n out size count mapping
   reduction-none {n = n} p = reduction-same p n out size count mapping (refl, refl, refl, refl, refl)
 
-  pub reduction-refused : (why : Refusal) (n : ℕ) → n ≡ number_of why → o.answer ≡ Err why → reduction_fits (length out) (length mapping) o ≡ refused n
+  -- A refusal that is handed on, and everything as it was
+  pub reduction-handed : {x : Reply Reduced} (said : Result (Unit {0}) Refusal) (why : Refusal) → (e : Refusal) × (said ≡ Err e) × (e ≡ why)
+      → x ≡ refused (number_of why) → ReductionGiven x out size count mapping (returned (reply_of said)) out size count mapping
+  reduction-handed said why left p = rw (left.1, left.2) (reduction-none p)
+
+  pub reduction-refused : (why : Refusal) → o.answer ≡ Err why → reduction_fits (length out) (length mapping) o ≡ refused (number_of why)
   unfolding ◌>>=◌
-  reduction-refused why n same e = rw (e, same)
+  reduction-refused why e = rw e
 
   module _ (done : o.answer ≡ Ok tt) where
     pub reduction-short : length mapping < 192 → reduction_fits (length out) (length mapping) o ≡ refused buffer_too_short
@@ -93,11 +99,13 @@ module _ (file : List ℕ) (source target : ℕ) (out : List ℕ) (size count : 
         given = w;
       }
 
-  pub reduce-refused : (n m : ℕ) → n ≡ m → read_file file ≡ refused m → ReduceGives file source target out size count mapping n out size count mapping
-  reduce-refused n m same a =
-      let e : read_file file ≡ refused n = a ∙ ap refused (sym same) in
-      record {
+  pub reduce-refused : (said : Result (Unit {0}) Refusal) (why : Refusal) → (e : Refusal) × (said ≡ Err e) × (e ≡ why) → read_file file ≡ refused (number_of why)
+      → ReduceGives file source target out size count mapping (returned (reply_of said)) out size count mapping
+  reduce-refused said why left a =
+      let n : ℕ = number_of why in
+      rw (left.1, left.2)
+      (record {
         result = refused n;
-        reducing = subst (λ (x : Reply Record). Reducing x source target (refused n) (length out) (length mapping)) (sym e) refl;
+        reducing = subst (λ (x : Reply Record). Reducing x source target (refused n) (length out) (length mapping)) (sym a) refl;
         given = (refl, refl, refl, refl, refl);
-      }
+      })

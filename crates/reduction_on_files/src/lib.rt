@@ -2,6 +2,8 @@
 #![tactic(auto)]
 
 ghost use Rattle.std.specs.Prelude.{length};
+ghost use Rattle.refusals.specs.Refusal.{reply_of};
+ghost use Rattle.lent_numbers.specs.Lent.{returned};
 ghost use Rattle.reduction_on_files.specs.Shortening.{reduction_fits, ReductionGiven, ReduceGives};
 ghost use Rattle.reduction_on_files.specs.internal.Steps.{SoundReduction};
 
@@ -17,31 +19,20 @@ pub fn store_reduction(
     size: &mut usize,
     count: &mut u8,
     mapping: &mut [u32],
-) -> u8
+) -> Result<(), Refusal>
     requires { SoundReduction reduced }
     ensures { ReductionGiven (reduction_fits (length out.old) (length mapping.old) reduced) out.old size.old
-        count.old mapping.old result out.new size.new count.new mapping.new }
+        count.old mapping.old (returned (reply_of result)) out.new size.new count.new mapping.new }
 {
-    match reduced.answer {
-        Ok(()) => {
-            if mapping.len() < 192 {
-                return u8::from(Refusal::BufferTooShort);
-            }
-            let after = reduced.record;
-            let images = reduced.images;
-            let written = write_good(after, out);
-            match written {
-                Ok(n) => {
-                    put_mapping(images, mapping);
-                    *size = n;
-                    *count = reduced.count;
-                    0
-                }
-                Err(refusal) => u8::from(refusal),
-            }
-        }
-        Err(refusal) => u8::from(refusal),
+    reduced.answer?;
+    if mapping.len() < 192 {
+        return Err(Refusal::BufferTooShort);
     }
+    let n = write_good(reduced.record, out)?;
+    put_mapping(reduced.images, mapping);
+    *size = n;
+    *count = reduced.count;
+    Ok(())
 }
 
 // Reduces the query of one place into another.
@@ -53,17 +44,11 @@ pub fn reduce_in_file(
     size: &mut usize,
     count: &mut u8,
     mapping: &mut [u32],
-) -> u8
-    ensures { ReduceGives file.now source target out.old size.old count.old mapping.old result
+) -> Result<(), Refusal>
+    ensures { ReduceGives file.now source target out.old size.old count.old mapping.old (returned (reply_of result))
         out.new size.new count.new mapping.new }
 {
-    let outcome = file::read(file);
-    match outcome.answer {
-        Ok(()) => {
-            let given = outcome.record;
-            let reduced = reduction::reduce(given, source, target);
-            store_reduction(reduced, out, size, count, mapping)
-        }
-        Err(refusal) => u8::from(refusal),
-    }
+    let given = file::read_record(file)?;
+    let reduced = reduction::reduce(given, source, target);
+    store_reduction(reduced, out, size, count, mapping)
 }

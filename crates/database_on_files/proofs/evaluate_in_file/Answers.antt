@@ -1,26 +1,24 @@
 -- `evaluate_in_file` gives the count and the answers, once the file is read. Assumes nothing.
 use mathlib.Core.Path.{◌≡◌, sym, ap, ◌∙◌}
 use lib.ListN.{length}
-use Rattle.format.specs.File.{read_file}
-use Rattle.format.proofs.Results.{outcome-done, outcome-refused}
 use Rattle.refusals.specs.Refusal.{reply_of}
 use Rattle.database.specs.Calls.{evaluated, buffer_then}
 use Rattle.database_on_files.specs.Databases.{evaluated_in}
 use Rattle.refusals.specs.Refusals.{refused}
 use Rattle.lent_numbers.specs.Lent.{returned}
-use Rattle.lent_numbers.proofs.Lent.{leaves-same, done-leaves, refused-number, refused-leaves}
-use Rattle.record_on_files.proofs.Files.{read_done, read-refused}
+use Rattle.lent_numbers.proofs.Lent.{leaves-same, done-leaves, err-number, goes_on, still-refused, refused-leaves}
+use Rattle.std.proofs.lemmas.Result.{err_from_is_err_and}
+use Rattle.refusals.specs.Refusal.{number_of}
 use Rattle.database_on_files.proofs.evaluate_in_file.Goals as goal
 
-pub returns-in-Ok : goal.returns-in-Ok
-returns-in-Ok c =
+pub returns : goal.returns
+returns c =
     let a = c.args in
-    let o = c.read-outcome in
     let l = c.leave_count.ensures in
     let p : reply_of c.evaluate-done.result ≡ evaluated_in a.file.now a.place a.words.now (length a.answers.now) =
     c.evaluate-done.ensures.result_value
-    ∙ sym (read_done a.file.now o.result o.ensures (λ r. evaluated r a.place a.words.now (length a.answers.now)) c.in-Ok.is) in
-    let w = done-leaves (outcome-done (read_file a.file.now) o.result o.ensures c.in-Ok.is)
+    ∙ sym (goes_on (sym c.in_ok-given.ensures) (λ r. evaluated r a.place a.words.now (length a.answers.now))) in
+    let w = done-leaves (sym c.in_ok-given.ensures)
     (λ r. buffer_then r a.place a.words.now a.answers.now) a.answers.now in
     record {
       value = l.value ∙ ap returned p;
@@ -28,16 +26,15 @@ returns-in-Ok c =
       count_after = l.count_after ∙ leaves-same p (λ n. n) a.count.now;
     }
 
-pub returns-in-Err : goal.returns-in-Err
-returns-in-Err c =
+pub returns-in_err-given : goal.returns-in_err-given
+returns-in_err-given c =
     let a = c.args in
-    let o = c.read-outcome in
-    let p : evaluated_in a.file.now a.place a.words.now (length a.answers.now) ≡ refused c.from.result =
-    read-refused a.file.now o.result o.ensures (λ r. evaluated r a.place a.words.now (length a.answers.now)) c.in-Err.refusal c.from.result c.from.ensures c.in-Err.is in
+    let p : evaluated_in a.file.now a.place a.words.now (length a.answers.now) ≡ refused (number_of c.in_err-given.field-0.0) =
+    still-refused (sym c.in_err-given.ensures) (λ r. evaluated r a.place a.words.now (length a.answers.now)) in
     record {
-      value = refused-number p;
+      value = err-number c.from_residual.result c.in_err-given.field-0.0 (err_from_is_err_and c.from_residual.result c.from_residual.ensures.1) p;
       answers_after =
-          refused-leaves (outcome-refused (read_file a.file.now) o.result c.in-Err.refusal o.ensures c.in-Err.is)
+          refused-leaves (sym c.in_err-given.ensures)
           (λ r. buffer_then r a.place a.words.now a.answers.now) a.answers.now;
       count_after = refused-leaves p (λ n. n) a.count.now;
     }

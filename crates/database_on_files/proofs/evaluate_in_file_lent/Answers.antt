@@ -9,11 +9,10 @@ use Rattle.database.specs.Calls.{evaluated, buffer_then, UnusedIfRefused}
 use Rattle.database_on_files.specs.Databases.{evaluated_in, answers_left, UnusedInFile}
 use Rattle.refusals.specs.Refusals.{Reply, refused}
 use Rattle.lent_numbers.specs.Lent.{returned, leaves}
-use Rattle.format.specs.File.{read_file}
-use Rattle.record_on_files.proofs.Files.{read_done, read-refused}
-use Rattle.lent_numbers.proofs.Lent.{done-leaves, refused-number, refused-leaves}
-use Rattle.format.proofs.Results.{outcome-done, outcome-refused}
+use Rattle.lent_numbers.proofs.Lent.{done-leaves, err-number, goes_on, still-refused, refused-leaves}
 use Rattle.database_on_files.proofs.Memory.{unused-read}
+use Rattle.std.proofs.lemmas.Result.{err_from_is_err_and}
+use Rattle.refusals.specs.Refusal.{number_of}
 use Rattle.database_on_files.proofs.evaluate_in_file_lent.Goals as goal
 use Rattle.database_on_files.proofs.evaluate_in_file_lent.Goals.{After-evaluate_lent-done}
 
@@ -22,33 +21,30 @@ of-record : (c : After-evaluate_lent-done)
     → reply_of c.evaluate_lent-done.result ≡ evaluated_in c.args.file.now c.args.place c.args.words.now (length c.args.answers.now)
 of-record c =
     let s = c.args in
-    let o = c.read-outcome in
     c.evaluate_lent-done.ensures.result_value
-    ∙ sym (read_done s.file.now o.result o.ensures (λ r. evaluated r s.place s.words.now (length s.answers.now)) c.in-Ok.is)
+    ∙ sym (goes_on (sym c.in_ok-given.ensures) (λ r. evaluated r s.place s.words.now (length s.answers.now)))
 
 -- And the answers are those of its place
 written : (c : After-evaluate_lent-done)
-    → buffer_then c.read-outcome.result.«record» c.args.place c.args.words.now c.args.answers.now
+    → buffer_then c.in_ok-given.given c.args.place c.args.words.now c.args.answers.now
     ≡ answers_left c.args.file.now c.args.place c.args.words.now c.args.answers.now
 written c =
     let s = c.args in
-    let o = c.read-outcome in
-    done-leaves (outcome-done (read_file s.file.now) o.result o.ensures c.in-Ok.is)
+    done-leaves (sym c.in_ok-given.ensures)
     (λ r. buffer_then r s.place s.words.now s.answers.now) s.answers.now
 
 -- Working memory is as the call on its record leaves it
 unused : (c : After-evaluate_lent-done) (before after : List ℕ)
-    → UnusedIfRefused (search_conditions c.read-outcome.result.«record» c.args.place c.args.words.now) before after
+    → UnusedIfRefused (search_conditions c.in_ok-given.given c.args.place c.args.words.now) before after
     → UnusedInFile c.args.file.now (λ r. search_conditions r c.args.place c.args.words.now) before after
 unused c before after =
     let s = c.args in
-    let o = c.read-outcome in
-    unused-read s.file.now o.result o.ensures c.in-Ok.is
+    unused-read s.file.now c.in_ok-given.given c.in_ok-given.ensures
     (λ r. search_conditions r s.place s.words.now) before after
 
-pub returns-in-Ok : goal.returns-in-Ok
-returns-in-Ok c =
-    let k = (goal.at.returns-in-Ok c).After-evaluate_lent-done in
+pub returns : goal.returns
+returns c =
+    let k = (goal.at.returns c).After-evaluate_lent-done in
     let p = of-record k in
     let l = c.leave_count.ensures in
     let m = c.evaluate_lent-done.ensures in
@@ -62,16 +58,15 @@ returns-in-Ok c =
       unused_in_file_4 = unused k _ _ m.unused_if_refused_4;
     }
 
-pub returns-in-Err : goal.returns-in-Err
-returns-in-Err c =
-    let o = c.read-outcome in
+pub returns-in_err-given : goal.returns-in_err-given
+returns-in_err-given c =
     let s = c.args in
-    let p : evaluated_in s.file.now s.place s.words.now (length s.answers.now) ≡ refused c.from.result =
-    read-refused s.file.now o.result o.ensures (λ r. evaluated r s.place s.words.now (length s.answers.now)) c.in-Err.refusal c.from.result c.from.ensures c.in-Err.is in
+    let p : evaluated_in s.file.now s.place s.words.now (length s.answers.now) ≡ refused (number_of c.in_err-given.field-0.0) =
+    still-refused (sym c.in_err-given.ensures) (λ r. evaluated r s.place s.words.now (length s.answers.now)) in
     record {
-      value = refused-number p;
+      value = err-number c.from_residual.result c.in_err-given.field-0.0 (err_from_is_err_and c.from_residual.result c.from_residual.ensures.1) p;
       answers_after =
-          refused-leaves (outcome-refused (read_file s.file.now) o.result c.in-Err.refusal o.ensures c.in-Err.is)
+          refused-leaves (sym c.in_err-given.ensures)
           (λ r. buffer_then r s.place s.words.now s.answers.now) s.answers.now;
       count_after = refused-leaves p (λ n. n) s.count.now;
       unused_in_file = λ n r. refl;

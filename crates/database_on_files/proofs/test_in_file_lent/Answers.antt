@@ -11,9 +11,10 @@ use Rattle.std.specs.Prelude.{Option as Maybe}
 use Rattle.refusals.specs.Refusals.{Reply, gives, refused, ◌>>=◌}
 use Rattle.words.specs.declared.Violation.{Violation}
 use Rattle.lent_numbers.specs.Lent.{returned, leaves}
-use Rattle.record_on_files.proofs.Files.{read_done, read-refused}
-use Rattle.lent_numbers.proofs.Lent.{refused-number, refused-leaves}
+use Rattle.lent_numbers.proofs.Lent.{err-number, goes_on, still-refused, refused-leaves}
 use Rattle.database_on_files.proofs.Memory.{unused-read}
+use Rattle.std.proofs.lemmas.Result.{err_from_is_err_and}
+use Rattle.refusals.specs.Refusal.{number_of}
 use Rattle.database_on_files.proofs.test_in_file_lent.Goals as goal
 use Rattle.database_on_files.proofs.test_in_file_lent.Goals.{After-test_lent-found}
 
@@ -21,24 +22,22 @@ use Rattle.database_on_files.proofs.test_in_file_lent.Goals.{After-test_lent-fou
 of-record : (c : After-test_lent-found) → test_result c.test_lent-found.result ≡ tested_in c.args.file.now c.args.words.now
 of-record c =
     let s = c.args in
-    let o = c.read-outcome in
     let next : Maybe Violation → Reply TestNumbers = λ v. gives (test_numbers v) in
     ap (λ (x : Reply (Maybe Violation)). x >>= next) c.test_lent-found.ensures.result_value
-    ∙ sym (read_done s.file.now o.result o.ensures (λ r. tested r s.words.now >>= next) c.in-Ok.is)
+    ∙ sym (goes_on (sym c.in_ok-given.ensures) (λ r. tested r s.words.now >>= next))
 
 -- Working memory is as the test on its record leaves it
 unused : (c : After-test_lent-found) (before after : List ℕ)
-    → UnusedIfRefused (test_conditions c.read-outcome.result.«record» c.args.words.now) before after
+    → UnusedIfRefused (test_conditions c.in_ok-given.given c.args.words.now) before after
     → UnusedInFile c.args.file.now (λ r. test_conditions r c.args.words.now) before after
 unused c before after =
     let s = c.args in
-    let o = c.read-outcome in
-    unused-read s.file.now o.result o.ensures c.in-Ok.is
+    unused-read s.file.now c.in_ok-given.given c.in_ok-given.ensures
     (λ r. test_conditions r s.words.now) before after
 
-pub returns-in-Ok : goal.returns-in-Ok
-returns-in-Ok c =
-    let k = (goal.at.returns-in-Ok c).After-test_lent-found in
+pub returns : goal.returns
+returns c =
+    let k = (goal.at.returns c).After-test_lent-found in
     let p = of-record k in
     let a = c.args in
     let l = c.leave_test.ensures in
@@ -55,14 +54,13 @@ returns-in-Ok c =
       unused_in_file_2 = unused k _ _ m.unused_if_refused_2;
     }
 
-pub returns-in-Err : goal.returns-in-Err
-returns-in-Err c =
+pub returns-in_err-given : goal.returns-in_err-given
+returns-in_err-given c =
     let a = c.args in
-    let o = c.read-outcome in
-    let p : tested_in a.file.now a.words.now ≡ refused c.from.result =
-    read-refused a.file.now o.result o.ensures (λ r. tested r a.words.now >>= λ v. gives (test_numbers v)) c.in-Err.refusal c.from.result c.from.ensures c.in-Err.is in
+    let p : tested_in a.file.now a.words.now ≡ refused (number_of c.in_err-given.field-0.0) =
+    still-refused (sym c.in_err-given.ensures) (λ r. tested r a.words.now >>= λ v. gives (test_numbers v)) in
     record {
-      value = refused-number p;
+      value = err-number c.from_residual.result c.in_err-given.field-0.0 (err_from_is_err_and c.from_residual.result c.from_residual.ensures.1) p;
       verdict_after = refused-leaves p (λ t. t.verdict) a.verdict.now;
       dependency_after = refused-leaves p (λ t. t.dependency) a.dependency.now;
       first_after = refused-leaves p (λ t. t.first) a.first.now;
