@@ -126,7 +126,7 @@ impl Record {
     }
 
     // Put a query into a vacant place.
-    // Kept as it is: a lookup answers with the index or a refusal, and `let .. else` takes the index, since a refused call hands the record back, as `?` would not.
+    // Kept as it is: a lookup answers with the index or a refusal, and `let .. else` takes the index: a refused call hands the record back, as `?` cannot.
     pub fn put(self, place: usize, q: Query) -> Outcome
         ensures { outcome_reply result ≡ put_query self place q }
     {
