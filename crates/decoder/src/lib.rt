@@ -16,10 +16,7 @@ use refusals::Refusal;
 fn is_vacant(part: &[u8]) -> bool
     ensures { result ≡ is_vacant part.now }
 {
-    if part.len() == 1 {
-        return part[0] == 255;
-    }
-    false
+    part == [255].as_slice()
 }
 
 // A query part: a vacant place, or a query whose head is safe. The last one is not vacant.
