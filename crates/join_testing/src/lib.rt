@@ -4,8 +4,8 @@
 // through where sets that come later tie them together.
 #![tactic(auto)]
 
-ghost use Rattle.std.specs.Prelude.{◌≡◌, ℕ, ◌+◌, ◌≤◌, ◌<◌, get_or};
-ghost use Rattle.query.specs.View.{join_of, held_joins};
+ghost use Rattle.std.specs.Prelude.{◌≡◌, ℕ, ◌+◌, ◌≤◌, ◌<◌, length, map, get_or};
+ghost use Rattle.query.specs.View.{join_of};
 ghost use Rattle.query.specs.Rule.{no_join};
 ghost use Rattle.words.specs.Words.{database_of};
 ghost use Rattle.join_tables.specs.internal.Indexed.{filled_to, Searchable, Indexed};
@@ -108,16 +108,15 @@ fn first_choice(
 pub fn first_unmet(
     schema: &[u8],
     words: &[u32],
-    joins: [JoinDependency; 4],
-    joined: usize,
+    joins: &[JoinDependency],
     heads: &mut [u32],
     nodes: &mut [u32],
 ) -> Option<Violation>
-    requires { (joined ≤ 4) × ((k : ℕ) → k < joined → Searchable schema.now words.now (get_or joins k no_join)) }
-    ensures { result ≡ unmet_of (first_unmet_from 0 schema.now (held_joins joins joined) (database_of schema.now words.now)) }
+    requires { (k : ℕ) → k < length joins.now → Searchable schema.now words.now (get_or joins.now k no_join) }
+    ensures { result ≡ unmet_of (first_unmet_from 0 schema.now (map join_of joins.now) (database_of schema.now words.now)) }
 {
-    for k in 0..joined {
-        let found = first_choice(words, schema, joins[k], heads, nodes);
+    for (k, &j) in joins.iter().enumerate() {
+        let found = first_choice(words, schema, j, heads, nodes);
         if let Some(rows) = found {
             return Some(Violation::Join {
                 dependency: k,

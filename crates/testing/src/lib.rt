@@ -3,7 +3,7 @@
 // The lent slices hold tables of `grouping`: the larger they are, the fewer walks. What they hold before does not matter.
 #![tactic(auto)]
 
-ghost use Rattle.std.specs.Prelude.{ℕ, ◌≡◌, true, ◌+◌, ◌≤◌, ◌<◌, map, take, get_or};
+ghost use Rattle.std.specs.Prelude.{ℕ, ◌≡◌, true, ◌+◌, ◌≤◌, ◌<◌, length, map, get_or};
 ghost use Rattle.query.specs.View.{dependency_of};
 ghost use Rattle.words.specs.Words.{spells_rows, database_of};
 ghost use Rattle.words.specs.Testing.{first_pair_from, first_broken_from};
@@ -92,22 +92,20 @@ fn first_pair(
 pub fn first_violation(
     schema: &[u8],
     words: &[u32],
-    dependencies: [Dependency; 32],
-    held: usize,
+    dependencies: &[Dependency],
     heads: &mut [u32],
     nodes: &mut [u32],
 ) -> Option<Violation>
-    requires held_bound { held ≤ 32 }
-    requires by_index { (k : ℕ) → k < held → Testable schema.now (get_or dependencies k no_dependency) }
+    requires held_bound { length dependencies.now ≤ 32 }
+    requires by_index { (k : ℕ) → k < length dependencies.now → Testable schema.now (get_or dependencies.now k no_dependency) }
     requires words_value { spells_rows schema.now words.now ≡ true }
-    ensures { result ≡ violation_of (first_broken_from 0 (map dependency_of (take held dependencies)) (database_of schema.now words.now)) }
+    ensures { result ≡ violation_of (first_broken_from 0 (map dependency_of dependencies.now) (database_of schema.now words.now)) }
 {
     // few rows need few buckets, which are cleared for each dependency
     let buckets = heads.len().min(words.len());
     let used = &mut heads[..buckets];
     let mut keys: [Option<Dependency>; 32] = [None; 32];
-    for k in 0..held {
-        let d = dependencies[k];
+    for (k, &d) in dependencies.iter().enumerate() {
         if has_key(&keys, d) {
             continue;
         }
