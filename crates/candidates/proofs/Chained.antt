@@ -3,7 +3,7 @@
 use mathlib.Core.Path.{◌≡◌, sym, ◌∙◌, ap₂, subst}
 use mathlib.Core.Bool.{Bool, true, false}
 use mathlib.Core.List.{List}
-use Prim.Native.Nat.{ℕ, ◌+◌, ◌-◌, ◌≤◌, ◌<◌, min}
+use Prim.Native.Nat.{ℕ, ◌+◌, ◌-◌, ◌≤◌, ◌<◌}
 use native.Mathlib.Omega.{arith}
 use lib.ListN.{length, take, drop, get_or, length-take, length-drop}
 use Rattle.std.proofs.lemmas.List.{get_or-take, get_or-drop}
@@ -40,7 +40,7 @@ part-at a n xs d i h = get_or-take (a + n - a) (drop a xs) i d (omega arith) ∙
 -- `all` over two parts of the same length at once
 pub all-parts : {A B : Type 0} (P : A × B → Type 0) (a b n : ℕ) (xs : List A) (ys : List B) (d : A) (e : B) (r : Bool) → a + n ≤ length xs → b + n ≤ length ys
     → (let zs = zip (part a n xs) (part b n ys) in
-      MatchBool r (AllWithin P zs 0 (length zs)) ((k : ℕ) × (k < length zs) × HoldsAt (λ x. P x → ⊥) zs k))
+    MatchBool r (AllWithin P zs 0 (length zs)) ((k : ℕ) × (k < length zs) × HoldsAt (λ x. P x → ⊥) zs k))
     → Tells r ((i : ℕ) → i < n → P (get_or xs (a + i) d, get_or ys (b + i) e))
 all-parts {A} {B} P a b n xs ys d e r h k found = ((λ t i l. pair i l ((tells.0 t) i (rw long l))), (λ all. tells.1 (λ i l. back i (rw long at l) (all i (rw long at l)))))
   where

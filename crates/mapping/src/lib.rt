@@ -46,6 +46,12 @@ pub fn check(source: Query, target: Query, images: [Cell; 96]) -> bool
     let from = flat(&source.cells, &source.head);
     let to = flat(&target.cells, &target.head);
     carries(&from, &to, &images, 96, 96)
-        && all_land(&from, &to, &images, &source.relations[..size], &target.relations[..count])
+        && all_land(
+            &from,
+            &to,
+            &images,
+            &source.relations[..size],
+            &target.relations[..count],
+        )
         && rest_blank(&from, &images)
 }

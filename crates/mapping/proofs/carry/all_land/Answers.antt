@@ -1,6 +1,6 @@
 -- `all_land` tells whether each row is carried to one of the target's. The invariant: those passed are.
 -- Assumes nothing.
-use borrow.Author.Count.{below_none, below_more}
+use borrow.Author.Count.{below_more}
 use mathlib.Core.Path.{sym, ◌∙◌}
 use mathlib.Core.Bool.{false≢true}
 use native.Mathlib.Omega.{arith}

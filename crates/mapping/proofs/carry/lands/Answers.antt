@@ -1,7 +1,6 @@
 -- `lands` tells whether a row is carried to one of the target's. The invariant: to none of those passed.
 -- Assumes nothing.
-use borrow.Author.Rules.{rules}
-use borrow.Author.Count.{below_none, below_more}
+use borrow.Author.Count.{below_more}
 use mathlib.Core.Path.{sym, ◌∙◌}
 use mathlib.Core.Bool.{false≢true}
 use Prim.Native.Nat.{◌<◌}

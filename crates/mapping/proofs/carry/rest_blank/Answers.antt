@@ -1,7 +1,7 @@
 -- `rest_blank` tells whether the other variables have constant 0. The invariant: those passed have it.
 -- Assumes nothing.
 use Rattle.std.proofs.Common.{rules, tests}
-use borrow.Author.Count.{below_none, below_more}
+use borrow.Author.Count.{below_more}
 use mathlib.Core.Path.{◌≡◌, refl, sym, ◌∙◌}
 use lib.ListN.{get_or}
 use Rattle.theory.specs.Query.{constant}
