@@ -7,14 +7,13 @@ use native.Mathlib.Omega.{arith}
 use borrow.Author.Tests.{leb-true, ltb-true, lt-ltb}
 use lib.Dec.{eqb, leb, ltb}
 use lib.ListN.{length, take, drop, get_or}
-use lib.Seq.{get_or-take}
 use Rattle.query.specs.Types.{Tableau}
 use Rattle.query.specs.declared.Dependency.{Dependency}
 use Rattle.query.specs.View.{as_query}
 use Rattle.lists.specs.Tests.{every, between, is_zero, in_use}
 use Rattle.query.specs.Rule.{blank_dependency, good_relations, good_set, good_dependency, good_dependencies, good_tableau, no_dependency}
 use Rattle.first_step.specs.internal.Wide.{Chasable}
-use Rattle.lists.proofs.Tests.{every-weaken}
+use Rattle.lists.proofs.Tests.{every-get_or, every-weaken, used-good}
 use Rattle.lists.proofs.Positions.{every-get_or-else}
 use Rattle.query.proofs.Good.{good-query}
 use Rattle.lists.proofs.Tests.{and_left, and_right}
@@ -50,27 +49,23 @@ good_right schema widths d good =
     good) in
     lt-ltb d.right 8 (omega (arith, width-le schema widths d.relation))
 
--- A good tableau and good dependencies can be chased
-pub chasable : (schema : List ℕ) (held : ℕ) (dependencies : List Dependency) (t : Tableau) → every (between 1 8) schema ≡ true
-    → good_dependencies schema held dependencies ≡ true → good_tableau schema t ≡ true → Chasable t dependencies held
+-- The dependencies that are held are good
+pub held-good : (schema : List ℕ) (held : ℕ) (dependencies : List Dependency) → good_dependencies schema held dependencies ≡ true
+    → every (good_dependency schema) (take held dependencies) ≡ true
 unfolding good_dependencies
-chasable schema held dependencies t widths good good-t =
+held-good schema held dependencies good =
+    used-good held (good_dependency schema) blank_dependency dependencies
+    (and_right (leb held 32) (in_use held (good_dependency schema) blank_dependency dependencies) good)
+
+-- A good tableau can be chased with good dependencies
+pub chasable : (schema : List ℕ) (dependencies : List Dependency) (t : Tableau) → every (between 1 8) schema ≡ true
+    → every (good_dependency schema) dependencies ≡ true → good_tableau schema t ≡ true → Chasable t dependencies
+chasable schema dependencies t widths good good-t =
     let p = good-query 24 schema (as_query t) good-t in
-    let used = in_use held (good_dependency schema) blank_dependency dependencies in
-    let each : every (good_dependency schema) (take held dependencies) ≡ true
-    = and_left
-    (every (good_dependency schema) (take held dependencies))
-    (every blank_dependency (drop held dependencies))
-    (and_right (leb held 32) used good) in
-    let rights = every-weaken (good_dependency schema) (λ d. ltb d.right 8) (good_right schema widths) (take held dependencies) each in
+    let rights = every-weaken (good_dependency schema) (λ d. ltb d.right 8) (good_right schema widths) dependencies good in
     record {
       arity-fits = p.arity;
       size_fits = p.size;
-      held_fits = leb-true held 32 (and_left (leb held 32) used good);
-      right-fits =
-          λ d h.
-          let at : get_or (take held dependencies) d no_dependency ≡ get_or dependencies d no_dependency = get_or-take held dependencies d no_dependency h in
-          rw at at (ltb-true (get_or (take held dependencies) d no_dependency).right 8
-          (every-get_or-else (λ x. ltb x.right 8) (take held dependencies) d no_dependency rights refl));
+      right-fits = λ d h. ltb-true (get_or dependencies d no_dependency).right 8 (every-get_or (λ x. ltb x.right 8) dependencies d no_dependency rights h);
       rest-blank = p.cells;
     }

@@ -17,7 +17,7 @@ use Rattle.query.specs.declared.Cell.{Cell}
 use Rattle.query.specs.declared.Dependency as stored-dependency
 use Rattle.query.specs.Types as stored
 use Rattle.query.specs.Types.{Tableau}
-use Rattle.query.specs.View.{entry_of, entries_of, query_of, as_query, held_of}
+use Rattle.query.specs.View.{entry_of, entries_of, query_of, as_query, dependency_of}
 use Rattle.lists.specs.Tests.{every, between}
 use Rattle.query.specs.Rule.{good_entry, good_cell, blank_cell, good_up_to, good_tableau, never_tableau, no_cell}
 use Rattle.std.specs.Prelude.{None, Some}
@@ -217,13 +217,13 @@ under-count q ds query count under arity size =
 -- ---- the end
 
 -- A chase of the wide rows that ends in a tableau is a chase of the rows
-chased-by : (schema : List ℕ) (dependencies : List stored-dependency.Dependency) (held : ℕ) (t : Tableau) (r : stored-chased.Chased)
+chased-by : (schema : List ℕ) (dependencies : List stored-dependency.Dependency) (t : Tableau) (r : stored-chased.Chased)
     → good_tableau schema t ≡ true → every (between 1 8) schema ≡ true
     → t.size ≤ length t.relations → r.query.size ≤ length r.query.relations
-    → chase (held_of dependencies held) (wide_query (as_query t)) ≡ record { query = wide_query (as_query r.query); count = r.count }
-    → good_tableau schema r.query ≡ true → r.query.arity ≡ t.arity → r.query.size ≤ t.size → IsChased schema dependencies held t r
-chased-by schema dependencies held t r good widths fits fits' chased good' arity size =
-    let ds = held_of dependencies held in
+    → chase (map dependency_of dependencies) (wide_query (as_query t)) ≡ record { query = wide_query (as_query r.query); count = r.count }
+    → good_tableau schema r.query ≡ true → r.query.arity ≡ t.arity → r.query.size ≤ t.size → IsChased schema dependencies t r
+chased-by schema dependencies t r good widths fits fits' chased good' arity size =
+    let ds = map dependency_of dependencies in
     let q = as_query t in
     let result = as_query r.query in
     let narrow = width-le schema widths in
@@ -241,25 +241,23 @@ wide-never arity fits = ap (λ l. record { head = l; rows = [] })
 
 module _
     (dependencies : List stored-dependency.Dependency)
-    (held : ℕ)
     (t tableau : Tableau)
     (count : ℕ)
-    (under : Under (as_query t) (held_of dependencies held) (as_query tableau) count)
+    (under : Under (as_query t) (map dependency_of dependencies) (as_query tableau) count)
     (fits : t.size ≤ length t.relations)
     (schema : List ℕ)
     (good : good_tableau schema t ≡ true)
     (widths : every (between 1 8) schema ≡ true)
   where
     -- Where the chase rests
-    pub under_rest : next_step_of None ≡ first_differing (held_of dependencies held) (wide_query (as_query tableau)).rows
-        → IsChased schema dependencies held t (record { query = tableau; count = count })
+    pub under_rest : next_step_of None ≡ first_differing (map dependency_of dependencies) (wide_query (as_query tableau)).rows
+        → IsChased schema dependencies t (record { query = tableau; count = count })
     under_rest found =
-        let ds = held_of dependencies held in
+        let ds = map dependency_of dependencies in
         let query = as_query tableau in
         chased-by
         schema
         dependencies
-        held
         t
         (record { query = tableau; count = count })
         good
@@ -275,11 +273,11 @@ module _
 
     -- Where it clashes
     pub under-clash : (a b : stored-entry.Entry) → t.arity ≤ 8 → t.arity ≤ length t.head
-        → next_step_of (Some (a, b)) ≡ first_differing (held_of dependencies held) (wide_query (as_query tableau)).rows
+        → next_step_of (Some (a, b)) ≡ first_differing (map dependency_of dependencies) (wide_query (as_query tableau)).rows
         → resolution_of None ≡ resolve (in_head (wide_query (as_query tableau))) (entry_of a) (entry_of b)
-        → IsChased schema dependencies held t (record { query = never_tableau t.arity; count = count })
+        → IsChased schema dependencies t (record { query = never_tableau t.arity; count = count })
     under-clash a b arity head found resolved =
-        let ds = held_of dependencies held in
+        let ds = map dependency_of dependencies in
         let query = as_query tableau in
         let inside : query.arity ≤ length query.head = rw (under.same-arity, under.head-length) head in
         let shown : length (wide_query query).head ≡ t.arity
@@ -287,7 +285,6 @@ module _
         chased-by
         schema
         dependencies
-        held
         t
         (record { query = never_tableau t.arity; count = count })
         good

@@ -20,13 +20,13 @@ pub struct Chased {
 
 // The chase: replacements until a clash, which ends it in never, or until no pair is broken.
 // A tableau is read through any schema under which it is good.
-pub fn chase(t: Tableau, dependencies: [Dependency; 32], held: usize) -> Chased
-    requires { Chasable t dependencies held }
-    ensures { (schema : List ℕ) → good_tableau schema t ≡ true → every (between 1 8) schema ≡ true → IsChased schema dependencies held t result }
+pub fn chase(t: Tableau, dependencies: &[Dependency]) -> Chased
+    requires { Chasable t dependencies.now }
+    ensures { (schema : List ℕ) → good_tableau schema t ≡ true → every (between 1 8) schema ≡ true → IsChased schema dependencies.now t result }
 {
     let mut query = t;
     let mut count: u8 = 0;
-    while let Some((a, b)) = find_step(query, dependencies, held) {
+    while let Some((a, b)) = find_step(query, dependencies) {
         let Some(replacement) = resolve(query, a, b) else {
             return Chased {
                 query: Tableau::never(t.arity),

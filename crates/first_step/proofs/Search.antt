@@ -9,7 +9,7 @@ use Prim.Native.Nat.{ℕ, zero, suc, ◌+◌, ◌*◌, ◌-◌, ◌≤◌, ◌<�
 use native.Mathlib.Nat.{sub-zero}
 use native.Mathlib.Numerals.{add-one}
 use native.Mathlib.Omega.{arith}
-use lib.ListN.{length, take, drop, get_or}
+use lib.ListN.{length, drop, get_or, drop_of_length-le}
 use Rattle.query.specs.declared.Entry as stored-entry
 use Rattle.query.specs.declared.Dependency as stored-dependency
 use Rattle.query.specs.declared.Cell.{Cell}
@@ -17,7 +17,7 @@ use Rattle.query.specs.Types.{Query}
 use Rattle.query.specs.View.{entry_of, dependency_of}
 use Rattle.query.specs.Rule.{no_cell, no_dependency}
 use Rattle.first_step.specs.internal.Wide.{wide_row, wide_rows, first_differing}
-use Rattle.lists.proofs.Positions.{left-cons, left-none}
+use lib.Seq.{drop-cons}
 use Rattle.lists.proofs.Tests.{below-or-past}
 use Rattle.first_step.proofs.Columns.{wide-column, breaks-other-first}
 use Rattle.theory.specs.Query.{Entry, Row}
@@ -50,10 +50,10 @@ module _ (q : Query) where
   unfolding wide_rows
   rows_none n i h = let nothing : n - i ≡ 0 = omega arith in rw nothing
 
-module _ (q : Query) (dependencies : List stored-dependency.Dependency) (held : ℕ) where
+module _ (q : Query) (dependencies : List stored-dependency.Dependency) where
   -- The dependencies that are left after the first d
   abbrev dependencies_left : ℕ → List Dependency
-  dependencies_left d = map dependency_of (drop d (take held dependencies))
+  dependencies_left d = map dependency_of (drop d dependencies)
 
   -- Dependency d
   abbrev dependency_at : ℕ → Dependency
@@ -76,11 +76,11 @@ module _ (q : Query) (dependencies : List stored-dependency.Dependency) (held : 
   broken_from_pair d i j =
       broken_with (dependency_at d) (wide_row q i) (rows_left q q.size j) (rows_left q q.size (i + 1)) (dependencies_left (d + 1)) rows_all
 
-  pub dependency-next : (d : ℕ) → d < held → held ≤ length dependencies → broken_from d ≡ broken_from_row d 0
-  dependency-next d h fits = rw (left-cons held d dependencies no_dependency h fits, first_broken-cons, sub-zero)
+  pub dependency-next : (d : ℕ) → d < length dependencies → broken_from d ≡ broken_from_row d 0
+  dependency-next d h = rw (drop-cons dependencies d no_dependency h, first_broken-cons, sub-zero, add-one)
 
-  pub dependency-last : (d : ℕ) → held ≤ d → broken_from d ≡ none
-  dependency-last d h = rw (left-none held d dependencies h) (first_broken-nil rows_all)
+  pub dependency-last : (d : ℕ) → length dependencies ≤ d → broken_from d ≡ none
+  dependency-last d h = rw (drop_of_length-le dependencies {i = d} h) (first_broken-nil rows_all)
 
   pub row_next : (d i : ℕ) → i < q.size → broken_from_row d i ≡ broken_from_pair d i (i + 1)
   row_next d i h = rw (rows-cons q q.size i h, broken_for-cons)

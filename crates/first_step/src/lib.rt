@@ -2,9 +2,9 @@
 // The widths of the relations play no part: where a row has no column its cell holds constant 0, as in every row of its relation.
 #![tactic(auto)]
 
-ghost use Rattle.std.specs.Prelude.{◌≡◌, ◌↔◌, IsTrue, true, List, ◌<◌};
+ghost use Rattle.std.specs.Prelude.{◌≡◌, ◌↔◌, IsTrue, true, List, map, ◌<◌};
 ghost use Rattle.query.specs.declared.Cell.{Cell};
-ghost use Rattle.query.specs.View.{as_query, dependency_of, held_of};
+ghost use Rattle.query.specs.View.{as_query, dependency_of};
 ghost use Rattle.query.specs.Rule.{good_cell};
 ghost use Rattle.lists.specs.Tests.{every};
 ghost use Rattle.first_step.specs.internal.Wide.{row_in, wide_query, first_differing, next_step_of, good_next_step, Chasable};
@@ -40,6 +40,7 @@ fn agree(marks: &[u64; 192], left: u8, i: usize, j: usize) -> bool
     requires { (i < 24) × (j < 24) }
     ensures { IsTrue result ↔ AgreeOn left marks.now i j }
 {
+    // Kept as it is: a column is a bit of the set and a cell of both rows, so that its number serves three reads.
     for c in 0..8usize {
         if (left >> c) % 2 == 1 && marks[8 * i + c] != marks[8 * j + c] {
             return false;
@@ -65,20 +66,20 @@ fn breaks(marks: &[u64; 192], relations: &[u8; 24], d: Dependency, i: usize, j: 
 }
 
 // The first broken pair: by dependency in held order, then by the rows' positions i < j, by i and then j.
-pub fn find_step(t: Tableau, dependencies: [Dependency; 32], held: usize) -> Option<(Entry, Entry)>
-    requires { Chasable t dependencies held }
-    ensures { (next_step_of result ≡ first_differing (held_of dependencies held) (wide_query (as_query t)).rows) × (every good_cell t.cells ≡ true → good_next_step result ≡ true) }
+pub fn find_step(t: Tableau, dependencies: &[Dependency]) -> Option<(Entry, Entry)>
+    requires { Chasable t dependencies.now }
+    ensures { (next_step_of result ≡ first_differing (map dependency_of dependencies.now) (wide_query (as_query t)).rows) × (every good_cell t.cells ≡ true → good_next_step result ≡ true) }
 {
     let size = t.size as usize;
     let marks = marks_of(t.cells);
+    // Kept as it is: i and j are positions in `relations` and of eight marks or cells, and j goes on from i.
     'search: loop {
-        for d in 0..held {
-            let dependency = dependencies[d];
-            let right = dependency.right as usize;
+        for d in dependencies {
+            let right = d.right as usize;
             for i in 0..size {
-                if t.relations[i] == dependency.relation {
+                if t.relations[i] == d.relation {
                     for j in i + 1..size {
-                        if breaks(&marks, &t.relations, dependency, i, j) {
+                        if breaks(&marks, &t.relations, *d, i, j) {
                             break 'search Some((
                                 t.cells[8 * i + right].entry,
                                 t.cells[8 * j + right].entry,

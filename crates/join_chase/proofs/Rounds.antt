@@ -3,35 +3,36 @@
 use mathlib.Core.Path.{◌≡◌, refl, sym, ◌∙◌, ap, subst}
 use mathlib.Core.Logic.{◌≢◌}
 use mathlib.Core.Bool.{true}
-use mathlib.Core.List.{List, [], ◌∷◌}
+use mathlib.Core.List.Memᴰ
+use mathlib.Core.List.{List, [], ◌∷◌, map}
 use mathlib.Core.Option.{some}
 use Prim.Native.Nat.{ℕ, ◌≤◌, ◌<◌}
 use native.Mathlib.Omega.{arith}
-use borrow.Author.Tests.{leb-true, le-leb}
+use borrow.Author.Tests.{le-leb}
 use lib.Dec.{leb}
-use lib.ListN.{length, take, get_or, length-map}
-use lib.Seq.{length-take-le}
-use Rattle.lists.specs.Tests.{every, between, in_use}
-use Rattle.lists.proofs.Tests.{and_left, and_right, every-weaken, used-good}
+use lib.ListN.{length, get_or, length-map}
+use Rattle.lists.specs.Tests.{every, between}
+use Rattle.lists.proofs.Tests.{every-member, every-weaken}
+use Rattle.lists.proofs.Positions.{length_none}
 use Rattle.theory.specs.Query.{Entry, Row, Query}
 use Rattle.theory.specs.Database as database
 use Rattle.theory.specs.Chase as chasing
 use Rattle.minimization.specs.Checking.{same_row}
-use Rattle.joins.specs.Join.{JoinsFit}
+use Rattle.joins.specs.Join.{JoinFits, JoinsFit}
 use Rattle.joins.specs.JoinChase.{keep_first, without_repeats, add_row, next_row, first_unmet, settle, chased, overflow, join_chase}
 use Rattle.joins.proofs.Choices.{next_row-found}
 use Rattle.joins.proofs.JoinChase.{added-some, rounds, settled-falls, join-at-end, join-at-row, join-at-limit}
 use Rattle.query.specs.Types.{Tableau}
 use Rattle.query.specs.declared.Dependency.{Dependency}
 use Rattle.query.specs.declared.JoinDependency.{JoinDependency}
-use Rattle.query.specs.View.{query_of, as_query, held_of, join_of, held_joins}
-use Rattle.query.specs.Rule.{good_tableau, good_join, good_joins, blank_join, shaped_join}
+use Rattle.query.specs.View.{query_of, as_query, dependency_of, join_of}
+use Rattle.query.specs.Rule.{good_tableau, good_join, shaped_join}
 use Rattle.query.proofs.Good.{good-query, good-join}
 use Rattle.query.proofs.Shape.{row_count}
 use Rattle.chase.specs.declared.Chased.{Chased}
 use Rattle.chase.specs.internal.Outcome.{IsChased}
-use Rattle.chase.proofs.Callers.{good-widths, width-le}
-use Rattle.join_rule.proofs.Fitting.{good-joins-fit}
+use Rattle.chase.proofs.Callers.{width-le}
+use Rattle.join_rule.proofs.Fitting.{good-join-fits}
 use Rattle.join_chase.specs.internal.JoinChased.{rounds_left, JoinChasable, IsJoinChased, IsNextRound}
 use Rattle.std.specs.Prelude.{Option, None, Some}
 use Rattle.join_step.specs.declared.NextRow.{NextRow}
@@ -44,33 +45,38 @@ unfolding without_repeats
 repeats-some [] q held = absurd (held refl)
 repeats-some (j ∷ js) q held = refl
 
-module _ (schema : List ℕ) (widths : every (between 1 8) schema ≡ true) (dependencies : List Dependency) (held : ℕ) (joins : List JoinDependency) (joined : ℕ)
-    (shaped : every shaped_join joins ≡ true) (enough : joined ≤ length joins) (good-joins : good_joins schema joined joins ≡ true) where
+module _ (schema : List ℕ) (widths : every (between 1 8) schema ≡ true) (dependencies : List Dependency) (joins : List JoinDependency)
+    (shaped : every shaped_join joins ≡ true) (good-joins : every (good_join schema) joins ≡ true) where
   ds : List database.Dependency
-  ds = held_of dependencies held
+  ds = map dependency_of dependencies
 
   js : List database.JoinDependency
-  js = held_joins joins joined
+  js = map join_of joins
 
   fit : JoinsFit schema js
   unfolding js
-  fit = good-joins-fit schema joined joins shaped good-joins
+  fit = held-fit joins shaped good-joins
+    where
+      held-fit : (xs : List JoinDependency) → every shaped_join xs ≡ true → every (good_join schema) xs ≡ true → JoinsFit schema (map join_of xs)
+      held-fit xs p q j at =
+          let from = Memᴰ.of_map join_of xs at in
+          subst (JoinFits schema) from.2 (good-join-fits schema from.0 (every-member shaped_join xs p from.1) (every-member (good_join schema) xs q from.1))
 
-  module _ (t : Tableau) (c : Chased) (is : IsChased schema dependencies held t c) where
+  module _ (t : Tableau) (c : Chased) (is : IsChased schema dependencies t c) where
     q : Query
     q = query_of schema (as_query t)
 
     -- With no join dependency held it is the functional chase
-    pub functional-only : joined ≡ 0
-        → chased (query_of schema (as_query c.query)) ≡ join_chase schema (held_of dependencies held) (held_joins joins joined) 24 (query_of schema (as_query t))
+    pub functional-only : joins ≡ []
+        → chased (query_of schema (as_query c.query)) ≡ join_chase schema (map dependency_of dependencies) (map join_of joins) 24 (query_of schema (as_query t))
     unfolding next_row first_unmet chasing.first_found settle without_repeats ds js q
     functional-only none-held =
-        let empty : js ≡ [] = ap (λ n. held_joins joins n) none-held in
+        let empty : js ≡ [] = ap (map join_of) none-held in
         ap chased is.query-is
         ∙ sym (subst (λ l. JoinsFit schema l → join_chase schema ds l 24 q ≡ chased (chasing.chase ds q).query) (sym empty)
         (λ fits. join-at-end schema ds [] 24 fits q refl) fit)
 
-    module _ (one : 0 < joined) (relations-long : length c.query.relations ≡ 24) (cells-long : length c.query.cells ≡ 192) where
+    module _ (one : joins ≢ []) (relations-long : length c.query.relations ≡ 24) (cells-long : length c.query.cells ≡ 192) where
       narrow : (i : ℕ) → get_or schema i 0 ≤ 8
       narrow = width-le schema widths
 
@@ -86,10 +92,7 @@ module _ (schema : List ℕ) (widths : every (between 1 8) schema ≡ true) (dep
 
       some-held : js ≢ []
       unfolding js
-      some-held none-held =
-          let long = length-map (take joined joins) join_of in
-          let short = ap length none-held in
-          absurd (omega (arith, one, long, short, length-take-le joined joins enough))
+      some-held none-held = one (length_none joins (sym (length-map joins join_of) ∙ ap length none-held))
 
       settled_is : query_of schema (as_query s) ≡ settle ds js q
       unfolding s q ds js settle
@@ -105,21 +108,21 @@ module _ (schema : List ℕ) (widths : every (between 1 8) schema ≡ true) (dep
           ap (λ p. length p.rows) (sym settled_is) ∙ row_count schema (as_query s) (omega (arith, g.size, long.0))
 
       -- No row is asked for
-      pub chase-ends : IsNext schema (distinct_to c.query c.query.size) joins joined None
+      pub chase-ends : IsNext schema (distinct_to c.query c.query.size) joins None
           → chased (query_of schema (as_query (distinct_to c.query c.query.size)))
-          ≡ join_chase schema (held_of dependencies held) (held_joins joins joined) 24 (query_of schema (as_query t))
+          ≡ join_chase schema (map dependency_of dependencies) (map join_of joins) 24 (query_of schema (as_query t))
       unfolding s q ds js
       chase-ends next =
           ap chased settled_is ∙ sym (join-at-end schema ds js 24 fit q (sym (next.row_is ∙ ap (λ p. next_row schema js p.rows) settled_is)))
 
-      module _ (n : NextRow) (next : IsNext schema (distinct_to c.query c.query.size) joins joined (Some n)) where
+      module _ (n : NextRow) (next : IsNext schema (distinct_to c.query c.query.size) joins (Some n)) where
         asked : next_row schema js (settle ds js q).rows ≡ some (row_with schema n.relation n.row)
         unfolding s js
         asked = sym (next.row_is ∙ ap (λ p. next_row schema js p.rows) settled_is)
 
         -- One is, and there is no room
         pub chase-over : (distinct_to c.query c.query.size).size ≡ 24
-            → overflow ≡ join_chase schema (held_of dependencies held) (held_joins joins joined) 24 (query_of schema (as_query t))
+            → overflow ≡ join_chase schema (map dependency_of dependencies) (map join_of joins) 24 (query_of schema (as_query t))
         unfolding s q ds js
         chase-over full =
             sym (join-at-limit schema ds js 24 fit q (row_with schema n.relation n.row) asked (omega (arith, settled-size, full)))
@@ -148,15 +151,15 @@ module _ (schema : List ℕ) (widths : every (between 1 8) schema ≡ true) (dep
           more-good =
               added-tableau schema narrow s lengths.0 lengths.1 settled-good room n.relation n.row eight some-row next.good
 
-          pub chase-goes-on : join_chase schema (held_of dependencies held) (held_joins joins joined) 24 (query_of schema (as_query t))
-              ≡ join_chase schema (held_of dependencies held) (held_joins joins joined) 24
+          pub chase-goes-on : join_chase schema (map dependency_of dependencies) (map join_of joins) 24 (query_of schema (as_query t))
+              ≡ join_chase schema (map dependency_of dependencies) (map join_of joins) 24
               (query_of schema (as_query (with_row (distinct_to c.query c.query.size) n.relation n.row)))
           unfolding s q ds js
           chase-goes-on =
               join-at-row schema ds js 24 fit q (row_with schema n.relation n.row) asked (omega (arith, settled-size, room))
               ∙ ap (join_chase schema ds js 24) (sym more-is)
 
-          pub fewer-rounds : rounds_left schema joins joined (with_row (distinct_to c.query c.query.size) n.relation n.row) < rounds_left schema joins joined t
+          pub fewer-rounds : rounds_left schema joins (with_row (distinct_to c.query c.query.size) n.relation n.row) < rounds_left schema joins t
           unfolding s q js rounds
           fewer-rounds =
               subst (λ p. rounds schema ds js 24 p < rounds schema ds js 24 q) (sym more-is)
@@ -164,90 +167,64 @@ module _ (schema : List ℕ) (widths : every (between 1 8) schema ≡ true) (dep
 
 -- ---- what a round promises
 
--- The join dependencies that are held are at most 4, each of at most 4 sets
-pub joins-fit-room : (schema : List ℕ) (joined : ℕ) (joins : List JoinDependency) → good_joins schema joined joins ≡ true
-    → (joined ≤ 4) × (every (λ j. leb j.count 4) (take joined joins) ≡ true)
-unfolding good_joins
-joins-fit-room schema joined joins good =
-    let used = in_use joined (good_join schema) blank_join joins in (
-      leb-true joined 4 (and_left (leb joined 4) used good),
-      every-weaken (good_join schema) (λ j. leb j.count 4) (λ j g. le-leb j.count 4 (good-join schema j g).most) (take joined joins)
-          (used-good joined (good_join schema) blank_join joins (and_right (leb joined 4) used good)),
-    )
+-- Good join dependencies have at most 4 sets each
+pub counts-fit : (schema : List ℕ) (joins : List JoinDependency) → every (good_join schema) joins ≡ true → every (λ j. leb j.count 4) joins ≡ true
+counts-fit schema joins good =
+    every-weaken (good_join schema) (λ j. leb j.count 4) (λ j g. le-leb j.count 4 (good-join schema j g).most) joins good
 
-module _ (t : Tableau) (relations : ℕ) (given : List ℕ) (dependencies : List Dependency) (held : ℕ) (joins : List JoinDependency) (joined : ℕ)
-    (asked : JoinChasable t relations given dependencies held joins joined) (shaped : every shaped_join joins ≡ true) (long : length joins ≡ 4)
-    (c : Chased) (promised : (schema : List ℕ) → good_tableau schema t ≡ true → every (between 1 8) schema ≡ true → IsChased schema dependencies held t c) where
-  schema : List ℕ
-  schema = take relations given
+module _ (t : Tableau) (schema : List ℕ) (dependencies : List Dependency) (joins : List JoinDependency) (asked : JoinChasable t schema dependencies joins)
+    (c : Chased) (promised : (schema : List ℕ) → good_tableau schema t ≡ true → every (between 1 8) schema ≡ true → IsChased schema dependencies t c) where
+  is : IsChased schema dependencies t c
+  is = promised schema asked.tableau-good asked.widths-good
 
-  widths : every (between 1 8) schema ≡ true
-  unfolding schema
-  widths = good-widths relations given asked.relations-good
-
-  enough : joined ≤ length joins
-  unfolding schema
-  enough = omega (arith, (joins-fit-room schema joined joins asked.joins-good).0, long)
-
-  is : IsChased schema dependencies held t c
-  unfolding schema
-  is = promised schema asked.tableau-good widths
-
-  pub made-functional : joined ≡ 0 → IsJoinChased t relations given dependencies held joins joined (Some c.query)
-  unfolding schema
+  pub made-functional : joins ≡ [] → IsJoinChased t schema dependencies joins (Some c.query)
   made-functional none-held = record {
-    outcome-is = functional-only schema widths dependencies held joins joined shaped enough asked.joins-good t c is none-held;
+    outcome-is = functional-only schema asked.widths-good dependencies joins asked.joins-shaped asked.joins-good t c is none-held;
     good = is.good;
     same-arity = is.same-arity;
   }
 
-  module _ (one : 0 < joined) (relations-long : length c.query.relations ≡ 24) (cells-long : length c.query.cells ≡ 192) (s : Tableau)
+  module _ (one : joins ≢ []) (relations-long : length c.query.relations ≡ 24) (cells-long : length c.query.cells ≡ 192) (s : Tableau)
       (is-settled : s ≡ distinct_to c.query c.query.size) where
-    pub settled-tableau : good_tableau (take relations given) s ≡ true
-    unfolding schema
+    pub settled-tableau : good_tableau schema s ≡ true
     settled-tableau =
         ap (good_tableau schema) is-settled
-        ∙ settled-good schema widths dependencies held joins joined shaped enough asked.joins-good t c is one relations-long cells-long
+        ∙ settled-good schema asked.widths-good dependencies joins asked.joins-shaped asked.joins-good t c is one relations-long cells-long
 
     module _ (n : Option NextRow) (promised-next : (schema : List ℕ) → ((i : ℕ) → get_or schema i 0 ≤ 8) → good_tableau schema s ≡ true
-        → good_joins schema joined joins ≡ true → IsNext schema s joins joined n) where
-      next : IsNext schema (distinct_to c.query c.query.size) joins joined n
-      unfolding schema
+        → every (good_join schema) joins ≡ true → IsNext schema s joins n) where
+      next : IsNext schema (distinct_to c.query c.query.size) joins n
       next =
-          subst (λ (x : Tableau). IsNext schema x joins joined n) is-settled
-          (promised-next schema (width-le schema widths) settled-tableau asked.joins-good)
+          subst (λ (x : Tableau). IsNext schema x joins n) is-settled
+          (promised-next schema (width-le schema asked.widths-good) settled-tableau asked.joins-good)
 
-      pub made-end : n ≡ None → IsJoinChased t relations given dependencies held joins joined (Some s)
-      unfolding schema
+      pub made-end : n ≡ None → IsJoinChased t schema dependencies joins (Some s)
       made-end out = record {
         outcome-is =
             ap (λ (x : Tableau). chased (query_of schema (as_query x))) is-settled
-            ∙ chase-ends schema widths dependencies held joins joined shaped enough asked.joins-good t c is one relations-long cells-long
-            (subst (IsNext schema (distinct_to c.query c.query.size) joins joined) out next);
+            ∙ chase-ends schema asked.widths-good dependencies joins asked.joins-shaped asked.joins-good t c is one relations-long cells-long
+            (subst (IsNext schema (distinct_to c.query c.query.size) joins) out next);
         good = settled-tableau;
         same-arity =
             ap (λ (x : Tableau). x.arity) is-settled
-            ∙ settled-arity schema widths dependencies held joins joined shaped enough asked.joins-good t c is one relations-long cells-long;
+            ∙ settled-arity schema asked.widths-good dependencies joins asked.joins-shaped asked.joins-good t c is one relations-long cells-long;
       }
 
       module _ (row : NextRow) (there : n ≡ Some row) where
-        some-next : IsNext schema (distinct_to c.query c.query.size) joins joined (Some row)
-        unfolding schema
-        some-next = subst (IsNext schema (distinct_to c.query c.query.size) joins joined) there next
+        some-next : IsNext schema (distinct_to c.query c.query.size) joins (Some row)
+        some-next = subst (IsNext schema (distinct_to c.query c.query.size) joins) there next
 
-        pub made-over : s.size ≡ 24 → IsJoinChased t relations given dependencies held joins joined None
-        unfolding schema
+        pub made-over : s.size ≡ 24 → IsJoinChased t schema dependencies joins None
         made-over full = record {
           outcome-is =
-              chase-over schema widths dependencies held joins joined shaped enough asked.joins-good t c is one relations-long cells-long row some-next
+              chase-over schema asked.widths-good dependencies joins asked.joins-shaped asked.joins-good t c is one relations-long cells-long row some-next
               (sym (ap (λ (x : Tableau). x.size) is-settled) ∙ full);
           good = tt;
           same-arity = tt;
         }
 
         pub made_more : s.size < 24 → length row.row ≡ 8 → (x : Tableau) → x ≡ with_row s row.relation row.row
-            → IsNextRound t relations given dependencies held joins joined x
-        unfolding schema
+            → IsNextRound t schema dependencies joins x
         made_more room eight x is-more =
             let less : (distinct_to c.query c.query.size).size < 24 = subst (λ (y : Tableau). y.size < 24) is-settled room in
             let same : x ≡ with_row (distinct_to c.query c.query.size) row.relation row.row =
@@ -255,17 +232,17 @@ module _ (t : Tableau) (relations : ℕ) (given : List ℕ) (dependencies : List
             record {
               good =
                   ap (good_tableau schema) same
-                  ∙ more-good schema widths dependencies held joins joined shaped enough asked.joins-good t c is one relations-long cells-long row
+                  ∙ more-good schema asked.widths-good dependencies joins asked.joins-shaped asked.joins-good t c is one relations-long cells-long row
                   some-next less eight;
               same-arity =
                   ap (λ (y : Tableau). y.arity) same
-                  ∙ settled-arity schema widths dependencies held joins joined shaped enough asked.joins-good t c is one relations-long cells-long;
+                  ∙ settled-arity schema asked.widths-good dependencies joins asked.joins-shaped asked.joins-good t c is one relations-long cells-long;
               same_outcome =
-                  chase-goes-on schema widths dependencies held joins joined shaped enough asked.joins-good t c is one relations-long cells-long row
+                  chase-goes-on schema asked.widths-good dependencies joins asked.joins-shaped asked.joins-good t c is one relations-long cells-long row
                   some-next less eight
-                  ∙ ap (λ (y : Tableau). join_chase schema (held_of dependencies held) (held_joins joins joined) 24 (query_of schema (as_query y))) (sym same);
+                  ∙ ap (λ (y : Tableau). join_chase schema (map dependency_of dependencies) (map join_of joins) 24 (query_of schema (as_query y))) (sym same);
               fewer-left =
-                  subst (λ (y : Tableau). rounds_left schema joins joined y < rounds_left schema joins joined t) (sym same)
-                  (fewer-rounds schema widths dependencies held joins joined shaped enough asked.joins-good t c is one relations-long cells-long row
+                  subst (λ (y : Tableau). rounds_left schema joins y < rounds_left schema joins t) (sym same)
+                  (fewer-rounds schema asked.widths-good dependencies joins asked.joins-shaped asked.joins-good t c is one relations-long cells-long row
                   some-next less eight);
             }

@@ -14,26 +14,23 @@ enum Round {
     Next(Tableau),
 }
 
-// One round. The relations and widths only name the schema.
+// One round. The schema is only named.
 fn make_round(
     t: Tableau,
-    relations: u8,
-    widths: [u8; 8],
-    dependencies: [Dependency; 32],
-    held: usize,
-    joins: [JoinDependency; 4],
-    joined: usize,
+    schema: &[u8],
+    dependencies: &[Dependency],
+    joins: &[JoinDependency],
 ) -> Round
-    requires { JoinChasable t relations widths dependencies held joins joined }
-    ensures { IsRound t relations widths dependencies held joins joined result }
+    requires { JoinChasable t schema.now dependencies.now joins.now }
+    ensures { IsRound t schema.now dependencies.now joins.now result }
 {
-    let chased = chase::chase(t, dependencies, held);
+    let chased = chase::chase(t, dependencies);
     let functional = chased.query;
-    if joined == 0 {
+    if joins.is_empty() {
         return Round::Ended(Some(functional));
     }
     let settled = without_repeats(functional);
-    let Some(next) = next_row(settled, joins, joined) else {
+    let Some(next) = next_row(settled, joins) else {
         return Round::Ended(Some(settled));
     };
     if settled.size == 24 {
@@ -45,27 +42,16 @@ fn make_round(
 // The chase, or none where a row more than 24 would be added. With no join dependency held it is the functional chase, repeated rows and all.
 pub fn chase(
     t: Tableau,
-    relations: u8,
-    widths: [u8; 8],
-    dependencies: [Dependency; 32],
-    held: usize,
-    joins: [JoinDependency; 4],
-    joined: usize,
+    schema: &[u8],
+    dependencies: &[Dependency],
+    joins: &[JoinDependency],
 ) -> Option<Tableau>
-    requires { JoinChasable t relations widths dependencies held joins joined }
-    ensures { IsJoinChased t relations widths dependencies held joins joined result }
+    requires { JoinChasable t schema.now dependencies.now joins.now }
+    ensures { IsJoinChased t schema.now dependencies.now joins.now result }
 {
     let mut tableau = t;
     loop {
-        match make_round(
-            tableau,
-            relations,
-            widths,
-            dependencies,
-            held,
-            joins,
-            joined,
-        ) {
+        match make_round(tableau, schema, dependencies, joins) {
             Round::Ended(outcome) => return outcome,
             Round::Next(query) => tableau = query,
         }

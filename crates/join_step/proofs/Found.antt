@@ -13,8 +13,8 @@ use borrow.Author.Tests.{eq-eqb, ne_eqb, lt-ltb, le-leb}
 use lib.Dec.{ltb, leb}
 use lib.ListN.{length, take, drop, get_or, length-map, length-drop, get_or-map}
 use lib.Seq.{ext_get_or, get_or-take, get_or-drop, length-take-le}
-use Rattle.lists.specs.Tests.{in_use}
-use Rattle.lists.proofs.Tests.{and_both, and_right, every-get_or, every_made, used-good, used-whole}
+use Rattle.lists.specs.Tests.{every, in_use}
+use Rattle.lists.proofs.Tests.{and_both, every-get_or, every_made, used-whole}
 use Rattle.theory.specs.Query.{Entry, constant, variable, Row, ◌∈◌}
 use Rattle.theory.specs.Chase.{first_found}
 use Rattle.theory.specs.Database as database
@@ -25,8 +25,8 @@ use Rattle.joins.proofs.Choices.{yields-length, yields-column, yields-relation}
 use Rattle.joins.proofs.Fitting.{in_some-set}
 use Rattle.query.specs.declared.Cell.{Cell}
 use Rattle.query.specs.declared.JoinDependency.{JoinDependency}
-use Rattle.query.specs.View.{entry_of, entries_of, columns_of, join_of, held_joins}
-use Rattle.query.specs.Rule.{good_entry, good_cell, blank_cell, good_row, good_join, good_joins, blank_join, no_cell}
+use Rattle.query.specs.View.{entry_of, entries_of, columns_of, join_of}
+use Rattle.query.specs.Rule.{good_entry, good_cell, blank_cell, good_row, good_join, no_cell}
 use Rattle.query.specs.internal.Code.{decoded}
 use Rattle.query.proofs.Stored.{Within}
 use Rattle.query.proofs.Codes.{decoded-constant, decoded-variable}
@@ -140,8 +140,8 @@ first-none find [] z nothing = refl
 first-none find (x ∷ xs) z nothing = rw (nothing 0 (omega arith)) (first-none find xs z (λ e l. nothing (suc e) (omega arith)))
 
 module _ (schema : List ℕ) (narrow : (i : ℕ) → get_or schema i 0 ≤ 8) (rows : List (Row Entry)) (codes relations : List ℕ)
-    (coded : Coded schema rows codes relations) (joins : List JoinDependency) (joined : ℕ) (good : good_joins schema joined joins ≡ true)
-    (enough : joined ≤ length joins) (z : JoinDependency) where
+    (coded : Coded schema rows codes relations) (joins : List JoinDependency) (good : every (good_join schema) joins ≡ true)
+    (z : JoinDependency) where
   -- Join dependency k
   at : ℕ → JoinDependency
   at k = get_or joins k z
@@ -151,32 +151,29 @@ module _ (schema : List ℕ) (narrow : (i : ℕ) → get_or schema i 0 ≤ 8) (r
   searched_at k =
       extend_of codes relations (length rows) (get_or joins k z).relation (take (get_or joins k z).count (get_or joins k z).sets) free_row
 
-  held_at : (k : ℕ) → k < joined → get_or (held_joins joins joined) k (join_of z) ≡ join_of (at k)
+  held_at : (k : ℕ) → get_or (map join_of joins) k (join_of z) ≡ join_of (at k)
   unfolding at
-  held_at k h = get_or-map join_of (take joined joins) k z ∙ ap join_of (get_or-take joined joins k z h)
+  held_at k = get_or-map join_of joins k z
 
-  held-long : length (held_joins joins joined) ≡ joined
-  held-long = length-map (take joined joins) join_of ∙ length-take-le joined joins enough
+  held-long : length (map join_of joins) ≡ length joins
+  held-long = length-map joins join_of
 
-  good-at : (k : ℕ) → k < joined → good_join schema (at k) ≡ true
-  unfolding good_joins at
-  good-at k h =
-      let used = used-good joined (good_join schema) blank_join joins (and_right (leb joined 4) (in_use joined (good_join schema) blank_join joins) good) in
-      ap (good_join schema) (sym (get_or-take joined joins k z h))
-      ∙ every-get_or (good_join schema) (take joined joins) k z used (rw (length-take-le joined joins enough) h)
+  good-at : (k : ℕ) → k < length joins → good_join schema (at k) ≡ true
+  unfolding at
+  good-at k h = every-get_or (good_join schema) joins k z good h
 
-  fits-at : (k : ℕ) → k < joined → length (at k).sets ≡ 4 → JoinFits schema (join_of (at k))
+  fits-at : (k : ℕ) → k < length joins → length (at k).sets ≡ 4 → JoinFits schema (join_of (at k))
   fits-at k h four = good-join-fits schema (at k) (eq-eqb (length (at k).sets) 4 four) (good-at k h)
 
   -- It is the theory's search
-  same_at : (k : ℕ) → k < joined → length (at k).sets ≡ 4
+  same_at : (k : ℕ) → k < length joins → length (at k).sets ≡ 4
       → Same schema (join_of (at k)) (narrow (at k).relation) rows codes relations coded (searched_at k) (first_missing schema rows (join_of (at k)))
   unfolding at
   same_at k h four =
       search-finds schema (join_of (at k)) (narrow (at k).relation) rows codes relations coded (fits-at k h four) (take (at k).count (at k).sets) refl
       (λ m there c inside. good-join-within schema (at k) (good-at k h) (columns_of m) (Memᴰ.map columns_of there) c inside)
 
-  none-at : (k : ℕ) → k < joined → length (at k).sets ≡ 4 → searched_at k ≡ none → first_missing schema rows (join_of (at k)) ≡ none
+  none-at : (k : ℕ) → k < length joins → length (at k).sets ≡ 4 → searched_at k ≡ none → first_missing schema rows (join_of (at k)) ≡ none
   none-at k h four e =
       go (first_missing schema rows (join_of (at k)))
       (subst (λ o. Same schema (join_of (at k)) (narrow (at k).relation) rows codes relations coded o (first_missing schema rows (join_of (at k)))) e (same_at k h four))
@@ -189,19 +186,19 @@ module _ (schema : List ℕ) (narrow : (i : ℕ) → get_or schema i 0 ≤ 8) (r
   abbrev pub Nothing : ℕ → Type 0
   Nothing k = (e : ℕ) → e < k → (length (get_or joins e z).sets ≡ 4) × (searched_at e ≡ none)
 
-  pub next-none : Nothing joined → none ≡ next_row schema (held_joins joins joined) rows
+  pub next-none : Nothing (length joins) → none ≡ next_row schema (map join_of joins) rows
   unfolding next_row first_unmet at
   next-none nothing =
       sym (ap (Option.map (λ found. yields schema found.0 found.1))
-      (first-none (first_missing schema rows) (held_joins joins joined) (join_of z) (λ e less.
-      let h : e < joined = omega (arith, held-long) in
-      ap (first_missing schema rows) (held_at e h) ∙ none-at e h (nothing e h).0 (nothing e h).1)))
+      (first-none (first_missing schema rows) (map join_of joins) (join_of z) (λ e less.
+      let h : e < length joins = omega (arith, held-long) in
+      ap (first_missing schema rows) (held_at e) ∙ none-at e h (nothing e h).0 (nothing e h).1)))
 
-  pub next-found : (k : ℕ) (chosen : List ℕ) → k < joined → Nothing k → length (get_or joins k z).sets ≡ 4 → searched_at k ≡ some chosen
+  pub next-found : (k : ℕ) (chosen : List ℕ) → k < length joins → Nothing k → length (get_or joins k z).sets ≡ 4 → searched_at k ≡ some chosen
       → (some (record {
         relation = (get_or joins k z).relation;
         values = entries_of (take (get_or schema (get_or joins k z).relation 0) (map cell_of chosen));
-      }) ≡ next_row schema (held_joins joins joined) rows)
+      }) ≡ next_row schema (map join_of joins) rows)
       × (good_row schema (get_or joins k z).relation (map cell_of chosen) ≡ true)
   unfolding next_row first_unmet at
   next-found k chosen h nothing four e =
@@ -211,18 +208,18 @@ module _ (schema : List ℕ) (narrow : (i : ℕ) → get_or schema i 0 ≤ 8) (r
       go : (o : Option Choice) → first_missing schema rows (join_of (at k)) ≡ o
           → Same schema (join_of (at k)) (narrow (at k).relation) rows codes relations coded (some chosen) o
           → (some (record { relation = (at k).relation; values = entries_of (take (get_or schema (at k).relation 0) (map cell_of chosen)) })
-          ≡ Option.map (λ found. yields schema found.0 found.1) (first_found (first_missing schema rows) (held_joins joins joined)))
+          ≡ Option.map (λ found. yields schema found.0 found.1) (first_found (first_missing schema rows) (map join_of joins)))
           × (good_row schema (at k).relation (map cell_of chosen) ≡ true)
       go none is s = absurd s
       go (some choice) is s =
-          let first = first-at (first_missing schema rows) (held_joins joins joined) k (join_of z) choice (omega (arith, held-long))
+          let first = first-at (first_missing schema rows) (map join_of joins) k (join_of z) choice (omega (arith, held-long))
           (λ d less.
-          let low : d < joined = omega arith in
-          ap (first_missing schema rows) (held_at d low) ∙ none-at d low (nothing d less).0 (nothing d less).1)
-          (ap (first_missing schema rows) (held_at k h) ∙ is) in (
+          let low : d < length joins = omega arith in
+          ap (first_missing schema rows) (held_at d) ∙ none-at d low (nothing d less).0 (nothing d less).1)
+          (ap (first_missing schema rows) (held_at k) ∙ is) in (
             ap some (row-yields schema (join_of (at k)) (narrow (at k).relation) rows codes relations coded choice chosen s.0 s.1)
                 ∙ sym (ap (Option.map (λ found. yields schema found.0 found.1)) first
-                ∙ ap (λ d. some (yields schema d choice)) (held_at k h)),
+                ∙ ap (λ d. some (yields schema d choice)) (held_at k)),
             row-good schema (join_of (at k)) (narrow (at k).relation) rows codes relations coded choice chosen s.0 s.1
                 (fits-at k h four).known,
           )

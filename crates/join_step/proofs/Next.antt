@@ -7,13 +7,14 @@ use mathlib.Core.Option.{Option, none, some}
 use Prim.Native.Nat.{ℕ, ◌+◌, ◌≤◌, ◌<◌}
 use native.Mathlib.Omega.{arith}
 use lib.ListN.{length, take, get_or}
+use Rattle.lists.specs.Tests.{every}
 use Rattle.lists.proofs.Tests.{below-or-past}
 use Rattle.theory.specs.Query.{Entry, Row}
 use Rattle.query.specs.declared.Cell.{Cell}
 use Rattle.query.specs.Types.{Tableau}
 use Rattle.query.specs.declared.JoinDependency.{JoinDependency}
 use Rattle.query.specs.View.{entries_of, query_of, as_query}
-use Rattle.query.specs.Rule.{good_tableau, good_joins, good_row}
+use Rattle.query.specs.Rule.{good_tableau, good_join, good_row}
 use Rattle.query.proofs.Good.{good-query}
 use Rattle.query.proofs.Shape.{row_count}
 use Rattle.join_search.specs.internal.Search.{free_row, extend_of}
@@ -45,9 +46,9 @@ nothing-more codes relations size joins z k before four found e less =
     (four, sym found))
     (below-or-past e k)
 
-module _ (t : Tableau) (joins : List JoinDependency) (joined : ℕ) (codes : List ℕ) (is-codes : codes ≡ codes_of t.cells)
-    (relations-long : length t.relations ≡ 24) (cells-long : length t.cells ≡ 192) (enough : joined ≤ length joins) (z : JoinDependency)
-    (schema : List ℕ) (narrow : (i : ℕ) → get_or schema i 0 ≤ 8) (good : good_tableau schema t ≡ true) (good-joins : good_joins schema joined joins ≡ true) where
+module _ (t : Tableau) (joins : List JoinDependency) (codes : List ℕ) (is-codes : codes ≡ codes_of t.cells)
+    (relations-long : length t.relations ≡ 24) (cells-long : length t.cells ≡ 192) (z : JoinDependency)
+    (schema : List ℕ) (narrow : (i : ℕ) → get_or schema i 0 ≤ 8) (good : good_tableau schema t ≡ true) (good-joins : every (good_join schema) joins ≡ true) where
   rows : List (Row Entry)
   rows = (query_of schema (as_query t)).rows
 
@@ -66,21 +67,21 @@ module _ (t : Tableau) (joins : List JoinDependency) (joined : ℕ) (codes : Lis
       ap (λ n. found_for (codes_of t.cells) t.relations n joins z k) (row_count schema (as_query t) (omega (arith, fits, relations-long)))
       ∙ ap (λ l. found_for l t.relations t.size joins z k) (sym is-codes) ∙ e
 
-  pub next-nothing : NothingBefore codes t.relations t.size joins z joined → IsNext schema t joins joined None
+  pub next-nothing : NothingBefore codes t.relations t.size joins z (length joins) → IsNext schema t joins None
   unfolding rows
   next-nothing nothing = record {
     row_is =
-        next-none schema narrow rows (codes_of t.cells) t.relations coded joins joined good-joins enough z
+        next-none schema narrow rows (codes_of t.cells) t.relations coded joins good-joins z
         (λ e less. ((nothing e less).0, in_rows e none (nothing e less).1));
     good = tt;
   }
 
-  pub next_one : (k : ℕ) → k < joined → NothingBefore codes t.relations t.size joins z k → length (get_or joins k z).sets ≡ 4
+  pub next_one : (k : ℕ) → k < length joins → NothingBefore codes t.relations t.size joins z k → length (get_or joins k z).sets ≡ 4
       → (row : List ℕ) → some row ≡ found_for codes t.relations t.size joins z k → (cells : List Cell) → cells ≡ map cell_of row
-      → IsNext schema t joins joined (Some (record { relation = (get_or joins k z).relation; row = cells }))
+      → IsNext schema t joins (Some (record { relation = (get_or joins k z).relation; row = cells }))
   unfolding rows
   next_one k h nothing four row found cells is =
-      let both = next-found schema narrow rows (codes_of t.cells) t.relations coded joins joined good-joins enough z k row h
+      let both = next-found schema narrow rows (codes_of t.cells) t.relations coded joins good-joins z k row h
       (λ e less. ((nothing e less).0, in_rows e none (nothing e less).1)) four
       (in_rows k (some row) (sym found)) in
       record {

@@ -3,7 +3,8 @@
 #![tactic(auto)]
 
 ghost use Rattle.std.specs.Prelude.{◌≡◌, true, List, map, ℕ, ◌*◌, ◌≤◌, ◌<◌, take, drop, get_or};
-ghost use Rattle.query.specs.Rule.{good_tableau, good_joins};
+ghost use Rattle.query.specs.Rule.{good_tableau, good_join};
+ghost use Rattle.lists.specs.Tests.{every};
 ghost use Rattle.join_step.specs.internal.Step.{codes_of, cell_of, with_row, distinct_to, Joinable, IsNext};
 
 use join_search::{first_missing, is_first};
@@ -48,16 +49,15 @@ fn cells_of(row: [u32; 8]) -> [Cell; 8]
 }
 
 // The first row that a choice of rows yields and that is not there, of the first join dependency in held order that has one.
-pub fn next_row(t: Tableau, joins: [JoinDependency; 4], joined: usize) -> Option<NextRow>
-    requires { Joinable t joins joined }
-    ensures { (schema : List ℕ) → ((i : ℕ) → get_or schema i 0 ≤ 8) → good_tableau schema t ≡ true → good_joins schema joined joins ≡ true
-        → IsNext schema t joins joined result }
+pub fn next_row(t: Tableau, joins: &[JoinDependency]) -> Option<NextRow>
+    requires { Joinable t joins.now }
+    ensures { (schema : List ℕ) → ((i : ℕ) → get_or schema i 0 ≤ 8) → good_tableau schema t ≡ true → every (good_join schema) joins.now ≡ true
+        → IsNext schema t joins.now result }
 {
     let codes = codes_of(t.cells);
     let size = t.size as usize;
-    for k in 0..joined {
-        let j = joins[k];
-        if let Some(row) = first_missing(&codes, &t.relations, size, j) {
+    for j in joins {
+        if let Some(row) = first_missing(&codes, &t.relations, size, *j) {
             return Some(NextRow {
                 relation: j.relation,
                 row: cells_of(row),
@@ -108,6 +108,7 @@ pub fn without_repeats(t: Tableau) -> Tableau
         cells: [query::NO_CELL; 192],
         ..t
     };
+    // Kept as it is: i is the position of a relation, of a row's cells and of the row that `is_first` looks back from.
     for i in 0..size {
         let relation = t.relations[i];
         if is_first(&codes, &t.relations, relation, 255, i) {

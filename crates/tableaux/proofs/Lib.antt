@@ -1,3 +1,3 @@
--- Laws of the tableau of a query, and of some elements in an array of another length.
+-- Laws of the tableau of a query, and of some elements put over blank ones.
 pub mod Tableaux
 pub mod Room

@@ -1,18 +1,30 @@
 // A stored query as a tableau, which has room for more rows, and back.
 #![tactic(auto)]
 
-ghost use Rattle.std.specs.Prelude.{◌≡◌, ◌-◌, ◌++◌, take, replicate};
-ghost use Rattle.tableaux.specs.internal.Tableaux.{tableau_of, stored_of};
+ghost use Rattle.std.specs.Prelude.{◌≡◌, ◌++◌, length, take, drop};
+ghost use Rattle.tableaux.specs.internal.Tableaux.{with_room, tableau_of, stored_of};
 
-use query::{NO_CELL, Query, Tableau};
+use query::{ConjunctiveQuery, Query, Tableau};
 
-// The first of some elements in an array of another length, blank after them.
-fn resized<T: Copy, const FROM: usize, const TO: usize>(xs: [T; FROM], blank: T) -> [T; TO]
-    ensures { result ≡ take TO xs ++ replicate (TO - FROM) blank }
+// Puts the first of some elements over others, as many as there is room for.
+fn put_fitting<T: Copy>(out: &mut [T], xs: &[T])
+    ensures { out.new ≡ take (length out.old) xs.now ++ drop (length xs.now) out.old }
 {
-    let mut out = [blank; TO];
-    let n = usize::min(FROM, TO);
+    let n = usize::min(out.len(), xs.len());
     out[..n].copy_from_slice(&xs[..n]);
+}
+
+// A query with room for another number of rows.
+fn with_room<const ROWS: usize, const CELLS: usize, const TO_ROWS: usize, const TO_CELLS: usize>(
+    q: ConjunctiveQuery<ROWS, CELLS>,
+) -> ConjunctiveQuery<TO_ROWS, TO_CELLS>
+    ensures { result ≡ with_room ROWS CELLS TO_ROWS TO_CELLS q.entry }
+{
+    let mut out = ConjunctiveQuery::never(q.arity);
+    out.size = q.size;
+    out.head = q.head;
+    put_fitting(&mut out.relations, &q.relations);
+    put_fitting(&mut out.cells, &q.cells);
     out
 }
 
@@ -20,30 +32,12 @@ fn resized<T: Copy, const FROM: usize, const TO: usize>(xs: [T; FROM], blank: T)
 pub fn from_query(q: Query) -> Tableau
     ensures { result ≡ tableau_of q }
 {
-    let head = q.head;
-    let relations = resized(q.relations, 0);
-    let cells = resized(q.cells, NO_CELL);
-    Tableau {
-        arity: q.arity,
-        size: q.size,
-        head,
-        relations,
-        cells,
-    }
+    with_room(q)
 }
 
 // A tableau of at most 12 rows as a stored query.
 pub fn to_query(t: Tableau) -> Query
     ensures { result ≡ stored_of t }
 {
-    let head = t.head;
-    let relations = resized(t.relations, 0);
-    let cells = resized(t.cells, NO_CELL);
-    Query {
-        arity: t.arity,
-        size: t.size,
-        head,
-        relations,
-        cells,
-    }
+    with_room(t)
 }

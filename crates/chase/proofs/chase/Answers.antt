@@ -1,13 +1,13 @@
 -- `chase::chase` meets its contract. The loop's invariant is `Under`: the chase of the query so far gives the whole chase, `count` replacements later. The
 -- measure is the number of replacements that are left. Assumes nothing.
 use mathlib.Core.Path.{◌≡◌, sym, ◌∙◌, ap}
-use mathlib.Core.List.{List}
+use mathlib.Core.List.{List, map}
 use Prim.Native.Nat.{suc}
 use native.Mathlib.Omega.{arith}
 use borrow.Author.Rules.{rules}
 use lib.ListN.{length}
 use Rattle.first_step.specs.internal.Wide.{wide_query}
-use Rattle.query.specs.View.{as_query, held_of}
+use Rattle.query.specs.View.{as_query, dependency_of}
 use Rattle.lists.proofs.Loops.{mapped-length}
 use Rattle.chase.proofs.Rounds.{under-start, under-replace, replaced-count, under-count, under_rest, under-clash}
 use Rattle.query.specs.Types.{Query}
@@ -29,8 +29,7 @@ returns c =
     let room = l.invariant.0 in
     λ schema good widths.
     under_rest
-    a.dependencies
-    a.held
+    a.dependencies.now
     a.t
     l.query
     l.count
@@ -52,8 +51,7 @@ returns-in_default-resolve c =
     rw
     c.never.ensures
     (under-clash
-    a.dependencies
-    a.held
+    a.dependencies.now
     a.t
     l.query
     l.count
@@ -71,7 +69,7 @@ returns-in_default-resolve c =
 
 -- The dependencies and the query before a replacement
 abbrev held_at : goal.After-replace-query → List Dependency
-held_at c = let a = c.args in held_of a.dependencies a.held
+held_at c = let a = c.args in map dependency_of a.dependencies.now
 
 abbrev query_at : goal.After-replace-query → Query
 query_at c = as_query c.loop-a.query

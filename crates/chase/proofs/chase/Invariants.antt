@@ -2,15 +2,16 @@
 -- measure is the number of replacements that are left. Assumes nothing.
 use mathlib.Core.Path.{◌≡◌}
 use lib.ListN.{length}
+use mathlib.Core.List.{map}
 use Rattle.first_step.specs.internal.Wide.{wide_query}
-use Rattle.query.specs.View.{as_query, held_of}
+use Rattle.query.specs.View.{as_query, dependency_of}
 use Rattle.chase.proofs.Rounds.{Under}
 use Rattle.theory.specs.Chase as chasing
 use Rattle.chase.proofs.chase.Given as goal
 
 abbrev pub invariant-loop-a : goal.invariant-loop-a
 invariant-loop-a l =
-    (length l.t.relations ≡ 24) × (length l.t.head ≡ 8) × Under (as_query l.t) (held_of l.dependencies l.held) (as_query l.query) l.count
+    (length l.t.relations ≡ 24) × (length l.t.head ≡ 8) × Under (as_query l.t) (map dependency_of l.dependencies) (as_query l.query) l.count
 
 abbrev pub decreases-loop-a : goal.decreases-loop-a
-decreases-loop-a l = (chasing.chase (held_of l.dependencies l.held) (wide_query (as_query l.query))).count
+decreases-loop-a l = (chasing.chase (map dependency_of l.dependencies) (wide_query (as_query l.query))).count

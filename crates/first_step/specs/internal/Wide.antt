@@ -1,7 +1,7 @@
 -- A stored query as the code of the chase reads it: its rows with all their 8 cells, and what the search for a step answers.
 -- A column that a row's relation does not have holds constant 0, so the chase of these wide rows is that of the rows.
 use Rattle.std.specs.Prelude as prelude
-use Rattle.std.specs.Prelude.{◌≡◌, None, Some, Bool, true, ◌&&◌, List, [], ◌∷◌, ℕ, zero, suc, ◌*◌, ◌≤◌, ◌<◌, take, drop, get_or}
+use Rattle.std.specs.Prelude.{◌≡◌, None, Some, Bool, true, ◌&&◌, List, [], ◌∷◌, ℕ, zero, suc, ◌*◌, ◌≤◌, ◌<◌, length, take, drop, get_or}
 use Rattle.std.proofs.Math.Option.{Option, none, some, map}
 use Rattle.query.specs.declared.Entry.{Entry}
 use Rattle.query.specs.declared.Cell.{Cell}
@@ -63,9 +63,8 @@ good_next_step (Some found) = good_entry found.0 && good_entry found.1
 
 -- What the chase asks of its caller, so that each cell that it reads is there and those not in use hold no variable: every good tableau and good
 -- dependencies have it
-pub record Chasable (t : Tableau) (dependencies : List Dependency) (held : ℕ) : Type 0 where
+pub record Chasable (t : Tableau) (dependencies : List Dependency) : Type 0 where
   pub arity-fits : t.arity ≤ 8
   pub size_fits : t.size ≤ 24
-  pub held_fits : held ≤ 32
-  pub right-fits : (d : ℕ) → d < held → (get_or dependencies d no_dependency).right < 8
+  pub right-fits : (d : ℕ) → d < length dependencies → (get_or dependencies d no_dependency).right < 8
   pub rest-blank : every blank_cell (drop (8 * t.size) t.cells) ≡ true

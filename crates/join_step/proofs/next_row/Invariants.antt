@@ -1,5 +1,4 @@
--- `join_step::next_row` meets its contract. The loop's invariant: nothing is found for the join dependencies before k. Assumes nothing.
-use mathlib.Core.Path.{◌≡◌}
+-- `join_step::next_row` meets its contract. The loop's invariant: nothing is found for the join dependencies before the present one. Assumes nothing.
 use Prim.Native.Nat.{◌≤◌}
 use lib.ListN.{length}
 use Rattle.join_step.proofs.Next.{NothingBefore}
@@ -11,6 +10,5 @@ use Rattle.join_step.proofs.next_row.Given as goal
 abbrev pub past_join : JoinDependency
 past_join = record { relation = 0; count = 0; sets = [] }
 
-abbrev pub invariant-loop-k : goal.invariant-loop-k
-invariant-loop-k l =
-    (length l.joins ≡ 4) × (l.k ≤ l.joined) × NothingBefore l.codes l.t.relations l.size l.joins past_join l.k
+abbrev pub invariant-loop-j : goal.invariant-loop-j
+invariant-loop-j l = (l.j-index ≤ length l.joins) × NothingBefore l.codes l.t.relations l.size l.joins past_join l.j-index

@@ -7,8 +7,8 @@ use Rattle.lists.specs.Over.{over}
 use Rattle.query.specs.declared.Cell.{Cell}
 use Rattle.query.specs.Types.{Tableau}
 use Rattle.query.specs.declared.JoinDependency.{JoinDependency}
-use Rattle.query.specs.View.{entries_of, query_of, as_query, held_joins}
-use Rattle.query.specs.Rule.{good_row, no_cell}
+use Rattle.query.specs.View.{entries_of, query_of, as_query, join_of}
+use Rattle.query.specs.Rule.{good_row, no_cell, shaped_join}
 use Rattle.query.specs.internal.Code.{code_of, decoded}
 use Rattle.joins.specs.JoinChase.{next_row}
 use Rattle.join_search.specs.internal.Search.{free, is_first}
@@ -53,12 +53,12 @@ next_of schema None = none
 next_of schema (Some r) = some (record { relation = r.relation; values = entries_of (take (get_or schema r.relation 0) r.row) })
 
 -- What the search asks, so that each row and set that it reads is there
-pub record Joinable (t : Tableau) (joins : List JoinDependency) (joined : ℕ) : Type 0 where
+pub record Joinable (t : Tableau) (joins : List JoinDependency) : Type 0 where
   pub size_fits : t.size ≤ 24
-  pub joined-fits : joined ≤ 4
-  pub counts-fit : every (λ j. leb j.count 4) (take joined joins) ≡ true
+  pub joins-shaped : every shaped_join joins ≡ true
+  pub counts-fit : every (λ j. leb j.count 4) joins ≡ true
 
 -- What it promises of a good tableau and good join dependencies: the row is the one to be added, and it is good
-pub record IsNext (schema : List ℕ) (t : Tableau) (joins : List JoinDependency) (joined : ℕ) (r : prelude.Option NextRow) : Type 0 where
-  pub row_is : next_of schema r ≡ next_row schema (held_joins joins joined) (query_of schema (as_query t)).rows
+pub record IsNext (schema : List ℕ) (t : Tableau) (joins : List JoinDependency) (r : prelude.Option NextRow) : Type 0 where
+  pub row_is : next_of schema r ≡ next_row schema (map join_of joins) (query_of schema (as_query t)).rows
   pub good : IfSome r (λ row. good_row schema row.relation row.row ≡ true)
