@@ -2,25 +2,26 @@
 -- The cases themselves are in `Verdicts`. Assumes nothing.
 use mathlib.Core.Path.{◌≡◌, refl, sym, ap, ap₂, subst, subst₂, ◌∙◌}
 use mathlib.Core.Logic.{◌≢◌}
-use mathlib.Core.Bool.{Bool, true, false, cond}
+use mathlib.Core.Bool.{Bool, true}
 use mathlib.Core.List.Memᴰ
 use mathlib.Core.List.{List, [], ◌∷◌}
 use mathlib.Core.Option.{Option, none, some}
 use Prim.Native.Nat.{ℕ, ◌≤◌, ◌<◌}
 use native.Mathlib.Omega.{arith}
 use lib.Dec.{leb}
-use lib.ListN.{length}
-use borrow.Author.Tests.{le-leb}
+use lib.ListN.{length, take}
+use borrow.Author.Tests.{le-leb, leb-true}
 use Rattle.record.specs.Calls.{stored_at, query_at}
 use Rattle.query.specs.declared.Cell.{Cell}
 use Rattle.query.specs.Types.{Query, Tableau}
 use Rattle.record.specs.declared.Record.{Record}
 use Rattle.query.specs.View.{entries_of, query_of, as_query, images_of}
 use Rattle.record.specs.View.{schema_of, dependencies_of, joins_of}
-use Rattle.lists.specs.Tests.{every}
+use Rattle.lists.specs.Tests.{every, between, in_use, is_zero}
 use Rattle.record.specs.Rule.{good_record}
-use Rattle.query.specs.Rule.{good_tableau, good_dependencies, good_joins, shaped_join, no_tableau}
-use Rattle.lists.proofs.Tests.{and_both}
+use Rattle.query.specs.Rule.{good_relations, good_tableau, good_dependencies, good_join, good_joins, blank_join, shaped_join}
+use Rattle.lists.proofs.Tests.{and_left, and_right, and_both, every_take, used-good}
+use Rattle.chase.proofs.Callers.{held-good}
 use Rattle.record.proofs.Good.{good-record}
 use Rattle.query.proofs.Good.{good-query}
 use Rattle.query.proofs.Shape.{SizedFor, row_count}
@@ -29,23 +30,22 @@ use Rattle.tableaux.proofs.Tableaux.{tableau-query, tableau-good}
 use Rattle.join_chase.specs.internal.JoinChased.{outcome_of, IsJoinChased, JoinChasable}
 use Rattle.join_rule.proofs.Fitting.{good-joins-fit}
 use Rattle.joins.specs.Join.{JoinsFit}
-use Rattle.joins.specs.JoinChase.{chased, overflow, join_chase}
-use Rattle.mapping.specs.declared.Mapped.{Mapped}
+use Rattle.joins.specs.JoinChase.{chased, join_chase}
 use Rattle.mapping.specs.internal.Mapped.{Storable, StorableTableau, IsMapped, Finds, Checks}
 use Rattle.mapping.proofs.Never.{never-rows}
 use Rattle.theory.specs.Query as theory
 use Rattle.theory.specs.Query.{◌∈◌}
 use Rattle.theory.specs.Answer as answer
 use Rattle.minimization.specs.Checking.{maps_to}
-use Rattle.refusals.specs.Refusals.{gives, reply}
-use Rattle.comparison.specs.declared.Comparison.{Comparison}
+use Rattle.refusals.specs.Refusals.{reply}
+use Rattle.comparison.specs.declared.Verdict.{Verdict}
 use Rattle.comparison.specs.declared.Verdict.TheVariants as verdict
 use Rattle.comparison.specs.Comparison.{outcome_at, query_in, chased_at, pair_refusal, Compared, CheckedMapping}
-use Rattle.std.specs.Prelude.{Ok, Err, Option as Maybe, Some, None, IfSome}
+use Rattle.std.specs.Prelude.{Result, Ok, Err, Option as Maybe, Some, None, IfSome}
 use Rattle.refusals.specs.declared.Refusal.{Refusal}
 use Rattle.refusals.specs.declared.Refusal.TheVariants as refusal
 use Rattle.refusals.specs.Refusal.{number_of}
-use Rattle.comparison.specs.internal.Pairs.{both, looked_up, bare}
+use Rattle.comparison.specs.internal.Pairs.{both, looked_up}
 use Rattle.comparison.proofs.Pairs.{standing, paired-places, compare-over}
 use Rattle.comparison.proofs.Verdicts.{queries, compared-refused, compared-never, compared-mapped, compared-apart}
 
@@ -75,20 +75,34 @@ joins-good r good =
     let g = good-record r good in
     and_both (leb r.joined 4) _ (le-leb r.joined 4 g.joined) g.joins
 
+-- At most 8 relations are good
+few-relations : (relations : ℕ) (widths : List ℕ) → good_relations relations widths ≡ true → relations ≤ 8
+unfolding good_relations
+few-relations relations widths good =
+    leb-true relations 8 (and_right (leb 1 relations) (leb relations 8) (and_left (between 1 8 relations) (in_use relations (between 1 8) is_zero widths) good))
+
+-- What is in use of a record whose places are not refused is within its arrays
+pub parts-within : (r : Record) (p q : ℕ) → pair_refusal r p q ≡ none → (r.relations ≤ 8) × (r.held ≤ 32) × (r.joined ≤ 4)
+parts-within r p q accepted =
+    let g = good-record r (standing r p q accepted).good in
+    (few-relations r.relations r.widths g.relations, g.held, g.joined)
+
 module _ (r : Record) (p q : ℕ) (accepted : pair_refusal r p q ≡ none) (sized : SizedFor 12 (stored_at r p)) where
   -- The tableau of the first query can be chased
-  pub can-be-chased : JoinChasable (tableau_of (stored_at r p)) r.relations r.widths r.dependencies r.held r.joins r.joined
-  can-be-chased =
+  pub can-be-chased : every shaped_join r.joins ≡ true
+      → JoinChasable (tableau_of (stored_at r p)) (schema_of r) (take r.held r.dependencies) (take r.joined r.joins)
+  can-be-chased shaped =
       let s = standing r p q accepted in
       record {
-        relations-good = (good-record r s.good).relations;
-        dependencies-good = functional-good r s.good;
-        joins-good = joins-good r s.good;
+        widths-good = (queries r p q accepted).widths;
+        dependencies-good = held-good (schema_of r) r.held r.dependencies (functional-good r s.good);
+        joins-shaped = every_take shaped_join r.joined r.joins shaped;
+        joins-good = used-good r.joined (good_join (schema_of r)) blank_join r.joins (good-record r s.good).joins;
         tableau-good = tableau-good (schema_of r) (stored_at r p) sized (queries r p q accepted).good-p;
       }
 
   module _ (shaped : every shaped_join r.joins ≡ true) (result : Maybe Tableau)
-      (is : IsJoinChased (tableau_of (stored_at r p)) r.relations r.widths r.dependencies r.held r.joins r.joined result) where
+      (is : IsJoinChased (tableau_of (stored_at r p)) (schema_of r) (take r.held r.dependencies) (take r.joined r.joins) result) where
     fit : JoinsFit (schema_of r) (joins_of r)
     fit = good-joins-fit (schema_of r) r.joined r.joins shaped (joins-good r (standing r p q accepted).good)
 
@@ -100,7 +114,7 @@ module _ (r : Record) (p q : ℕ) (accepted : pair_refusal r p q ≡ none) (size
         ∙ ap (join_chase (schema_of r) (dependencies_of r) (joins_of r) 24) (tableau-query (schema_of r) (stored_at r p) sized k.good-p k.narrow)
 
     -- before a row that would be one too many
-    pub answers-over : result ≡ None → Compared r p q (bare (verdict.Refused refusal.TooManyRows))
+    pub answers-over : result ≡ None → Compared r p q (Err refusal.TooManyRows)
     answers-over e =
         compared-refused r p q refusal.TooManyRows
         (compare-over r p q accepted (sym outcome ∙ ap (outcome_of (schema_of r)) e))
@@ -127,12 +141,12 @@ module _ (r : Record) (p q : ℕ) (accepted : pair_refusal r p q ≡ none) (size
       both-storable = ((schema_of r, (queries r p q accepted).good-q), (schema_of r, good-query-found))
 
       -- It is never
-      pub answers-never : query.size ≡ 0 → Compared r p q (bare verdict.Never)
+      pub answers-never : query.size ≡ 0 → Compared r p q (Ok verdict.Never)
       answers-never zero =
           compared-never r p q accepted fit ends_so
           (ap (λ (x : theory.Query). x.rows) (sym chased-is) ∙ never-rows (schema_of r) (as_query query) zero)
 
-      module _ (mapped : Mapped) (finds : Finds (stored_at r q) query mapped) where
+      module _ (mapped : Maybe (List Cell)) (finds : Finds (stored_at r q) query mapped) where
         found : IsMapped (query_at r q) (chased_at r p) mapped
         found =
             let k = queries r p q accepted in
@@ -140,10 +154,10 @@ module _ (r : Record) (p q : ℕ) (accepted : pair_refusal r p q ≡ none) (size
             (finds (schema_of r) k.narrow k.good-q (good-query-found) (sym k.same-arity ∙ sym same-head))
 
         -- There is one
-        pub answers-contained : mapped.found ≡ true → Compared r p q (record { verdict = verdict.Mapped; images = mapped.images; query = no_tableau })
-        answers-contained e =
-            compared-mapped r p q accepted fit ends_so (mapping-rows (query_at r q) (chased_at r p) (images_of mapped.images) (found.mapping e))
-            mapped.images (found.mapping e)
+        pub answers-contained : (images : List Cell) → mapped ≡ Some images → Compared r p q (Ok (verdict.Mapped images))
+        answers-contained images e =
+            let is : answer.IsMapping (query_at r q) (chased_at r p) (images_of images) = subst (IsMapped (query_at r q) (chased_at r p)) e found in
+            compared-mapped r p q accepted fit ends_so (mapping-rows (query_at r q) (chased_at r p) (images_of images) is) images is
 
         -- There is none
         module _ (named : length query.relations ≡ 24) (size : query.size ≢ 0) where
@@ -153,10 +167,10 @@ module _ (r : Record) (p q : ℕ) (accepted : pair_refusal r p q ≡ none) (size
               let fits : t.size ≤ length t.relations = omega (arith, named, (good-query 24 (schema_of r) t (good-query-found)).size) in
               size (sym (row_count (schema_of r) t fits) ∙ ap length (ap (λ (x : theory.Query). x.rows) chased-is ∙ empty))
 
-          pub answers-apart : mapped.found ≡ false → Compared r p q (record { verdict = verdict.Apart; images = mapped.images; query = query })
+          pub answers-apart : mapped ≡ None → Compared r p q (Ok (verdict.Apart query))
           answers-apart e =
-              subst (λ (images : List Cell). Compared r p q (record { verdict = verdict.Apart; images = images; query = query })) (sym (found.blank e))
-              (compared-apart r p q accepted fit ends_so some-rows sized.cells query chased-is (good-query-found) (found.none e))
+              let out : answer.Mapping (query_at r q) (chased_at r p) → ⊥ = subst (IsMapped (query_at r q) (chased_at r p)) e found in
+              compared-apart r p q accepted fit ends_so some-rows sized.cells query chased-is (good-query-found) out
 
 -- ---- two places
 
@@ -173,7 +187,7 @@ module _ (r : Record) (p q a b : ℕ) (is : looked_up r p q ≡ both a b) where
       let f = paired-places (pair_refusal r p q) p q a b is in
       subst₂ (λ (x y : ℕ). pair_refusal r x y ≡ none) f.1 f.2 f.0
 
-  pub places-compared : (c : Comparison) → Compared r a b c → Compared r p q c
+  pub places-compared : (c : Result Verdict Refusal) → Compared r a b c → Compared r p q c
   places-compared c =
       let f = paired-places (pair_refusal r p q) p q a b is in
       subst₂ (λ (x y : ℕ). Compared r x y c) (sym f.1) (sym f.2)

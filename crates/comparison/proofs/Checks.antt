@@ -6,7 +6,7 @@ use mathlib.Core.List.{List}
 use mathlib.Core.Option.{Option, none, some}
 use Prim.Native.Nat.{ℕ}
 use native.Mathlib.Omega.{arith}
-use Rattle.refusals.specs.Refusals.{refused, gives, reply}
+use Rattle.refusals.specs.Refusals.{gives, reply}
 use Rattle.query.specs.declared.Cell.{Cell}
 use Rattle.query.specs.View.{entries_of, images_of}
 use Rattle.record.specs.declared.Record.{Record}

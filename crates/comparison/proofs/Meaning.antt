@@ -7,7 +7,9 @@ use mathlib.Core.Option.{Option, none, some}
 use Prim.Native.Nat.{ℕ}
 use native.Mathlib.Omega.{arith}
 use Rattle.refusals.specs.Refusals.{gives}
-use Rattle.refusals.proofs.Refusals.{reply-gives}
+use Rattle.refusals.proofs.Refusals.{reply-gives, refused-gives}
+use Rattle.refusals.specs.Refusal.{number_of}
+use Rattle.refusals.proofs.Numbered.{number-same}
 use Rattle.theory.specs.Answer.{IsMapping}
 use Rattle.theory.specs.Chase.{chase}
 use Rattle.theory.specs.Database.{JoinDependency}
@@ -26,12 +28,12 @@ use Rattle.comparison.specs.declared.Verdict.{Verdict}
 use Rattle.comparison.specs.declared.Verdict.TheVariants as verdict
 use Rattle.std.specs.Prelude.{Result, Ok, Err, Bool, true, false}
 use Rattle.refusals.specs.declared.Refusal.{Refusal}
-use Rattle.comparison.specs.Comparison.{pair_refusal, comparison_refusal, not_contained, verdict_reply, verdict_of, CheckedMapping}
+use Rattle.comparison.specs.Comparison.{pair_refusal, comparison_refusal, not_contained, verdict_reply, verdict_of, Compared, ComparisonShape, CheckedMapping}
 use Rattle.comparison.specs.Meaning.{CheckMeans, CheckDenies, ComparedOnce, FunctionalAlone, OutcomeMeans}
 use Rattle.comparison.proofs.Pairs.{compare-stands}
 use Rattle.comparison.proofs.Answers.{joins-good}
 use Rattle.comparison.proofs.Checks.{checked_refused, checked-decided}
-use Rattle.comparison.proofs.Verdicts.{queries, verdict-same, refused-apart}
+use Rattle.comparison.proofs.Verdicts.{queries}
 
 -- ---- checking a mapping
 
@@ -80,13 +82,6 @@ check-denies r p q images c is = (says-no r p q images c is, is-no r p q images 
 
 -- ---- comparing
 
--- Whether a verdict is that the queries are apart
-apart-or-not : (v : Verdict) → (v ≡ verdict.Apart) ⊎ (v ≡ verdict.Apart → ⊥)
-apart-or-not verdict.Never = inr (λ e. let z : ◌≡◌ {A = ℕ} 0 1 = cc in omega arith)
-apart-or-not verdict.Mapped = inr (λ e. let z : ◌≡◌ {A = ℕ} 0 1 = cc in omega arith)
-apart-or-not verdict.Apart = inl refl
-apart-or-not (verdict.Refused n) = inr (refused-apart n)
-
 -- Apart is never said of places that are refused
 apart-accepted : (r : Record) (p q : ℕ) → verdict_of r p q ≡ gives not_contained → pair_refusal r p q ≡ none
 apart-accepted r p q h = compare-stands r p q (reply-gives (comparison_refusal r p q) _ not_contained h).0
@@ -95,20 +90,37 @@ apart-accepted r p q h = compare-stands r p q (reply-gives (comparison_refusal r
 abbrev as_tableau : Query → Tableau
 as_tableau q = record { arity = q.arity; size = q.size; head = q.head; relations = q.relations; cells = q.cells }
 
+-- Verdicts that say the same are the same, but for the mapping and the query
 pub compared-once : ComparedOnce
-compared-once r p q c d sized-c sized-d is is' =
-    let same : c.verdict ≡ d.verdict = verdict-same c.verdict d.verdict (is.verdict ∙ sym is'.verdict) in (
-      same,
-      ⊎_elim
-          (λ (a : c.verdict ≡ verdict.Apart).
-          let b : d.verdict ≡ verdict.Apart = sym same ∙ a in
-          let known = queries r p q (apart-accepted r p q (sym is.verdict ∙ ap verdict_reply a)) in
-          ap as_tableau
-          (stored-unique 24 (schema_of r) known.narrow (as_query c.query) (as_query d.query) sized-c sized-d (is.chased a).1 (is'.chased b).1
-          ((is.chased a).0 ∙ sym (is'.chased b).0)))
-          (λ (a : c.verdict ≡ verdict.Apart → ⊥). is.no-query a ∙ sym (is'.no-query (λ b. a (same ∙ b))))
-          (apart-or-not c.verdict),
-    )
+compared-once r p q c d sized-c sized-d is is' = go c d sized-c sized-d is is' (is.verdict ∙ sym is'.verdict)
+  where
+    Once : Result Verdict Refusal → Result Verdict Refusal → Type 0
+    Once c d = (c ≡ d) ⊎ ((images : List Cell) × (others : List Cell) × (c ≡ Ok (verdict.Mapped images)) × (d ≡ Ok (verdict.Mapped others)))
+
+    go : (c d : Result Verdict Refusal) → ComparisonShape c → ComparisonShape d → Compared r p q c → Compared r p q d → verdict_reply c ≡ verdict_reply d
+        → Once c d
+    go (Ok verdict.Never) (Ok verdict.Never) sized-c sized-d is is' e = inl refl
+    go (Ok verdict.Never) (Ok (verdict.Mapped others)) sized-c sized-d is is' e = let z : ◌≡◌ {A = ℕ} 2 1 = cc in absurd (omega arith)
+    go (Ok verdict.Never) (Ok (verdict.Apart other)) sized-c sized-d is is' e = let z : ◌≡◌ {A = ℕ} 2 0 = cc in absurd (omega arith)
+    go (Ok verdict.Never) (Err other) sized-c sized-d is is' e = absurd (refused-gives (sym e))
+    go (Ok (verdict.Mapped images)) (Ok verdict.Never) sized-c sized-d is is' e = let z : ◌≡◌ {A = ℕ} 1 2 = cc in absurd (omega arith)
+    go (Ok (verdict.Mapped images)) (Ok (verdict.Mapped others)) sized-c sized-d is is' e = inr (images, others, refl, refl)
+    go (Ok (verdict.Mapped images)) (Ok (verdict.Apart other)) sized-c sized-d is is' e = let z : ◌≡◌ {A = ℕ} 1 0 = cc in absurd (omega arith)
+    go (Ok (verdict.Mapped images)) (Err other) sized-c sized-d is is' e = absurd (refused-gives (sym e))
+    go (Ok (verdict.Apart query)) (Ok verdict.Never) sized-c sized-d is is' e = let z : ◌≡◌ {A = ℕ} 0 2 = cc in absurd (omega arith)
+    go (Ok (verdict.Apart query)) (Ok (verdict.Mapped others)) sized-c sized-d is is' e = let z : ◌≡◌ {A = ℕ} 0 1 = cc in absurd (omega arith)
+    go (Ok (verdict.Apart query)) (Ok (verdict.Apart other)) sized-c sized-d is is' e =
+        let known = queries r p q (apart-accepted r p q (sym is.verdict)) in
+        let a = is.chased query refl in
+        let b = is'.chased other refl in
+        let same : query ≡ other =
+        ap as_tableau (stored-unique 24 (schema_of r) known.narrow (as_query query) (as_query other) sized-c sized-d a.1 b.1 (a.0 ∙ sym b.0))
+        in
+        inl (ap (λ (t : Tableau). Ok (verdict.Apart t)) same)
+    go (Ok (verdict.Apart query)) (Err other) sized-c sized-d is is' e = absurd (refused-gives (sym e))
+    go (Err why) (Ok found) sized-c sized-d is is' e = absurd (refused-gives e)
+    go (Err why) (Err other) sized-c sized-d is is' e =
+        let z : number_of why ≡ number_of other = cc in inl (ap (λ (n : Refusal). Err n) (number-same why other z))
 
 -- No join dependency is among the first 0
 pub functional-alone : FunctionalAlone

@@ -9,17 +9,16 @@ use mathlib.Core.List.{List, [], ◌∷◌}
 use mathlib.Core.Option.{Option, none, some}
 use Prim.Native.Nat.{ℕ, ◌*◌, ◌≤◌}
 use native.Mathlib.Omega.{arith}
-use lib.ListN.{length, get_or, replicate}
+use lib.ListN.{length, get_or}
 use Rattle.refusals.specs.Refusals.{gives, reply}
 use Rattle.query.specs.declared.Cell.{Cell}
 use Rattle.query.specs.Types.{Tableau}
-use Rattle.refusals.proofs.Refusals.{refused-gives}
 use Rattle.record.proofs.Kept.{empty-place}
 use Rattle.record.specs.declared.Record.{Record}
 use Rattle.query.specs.View.{query_of, as_query, images_of}
 use Rattle.record.specs.View.{schema_of, dependencies_of, joins_of}
 use Rattle.lists.specs.Tests.{every, between}
-use Rattle.query.specs.Rule.{good_query, good_tableau, head_safe, no_cell, no_tableau, good_place, no_place}
+use Rattle.query.specs.Rule.{good_query, good_tableau, head_safe, good_place, no_place}
 use Rattle.record.specs.Rule.{good_record}
 use Rattle.record.specs.Calls.{is_filled, stored_at, query_at}
 use Rattle.record.proofs.Good.{good-record}
@@ -36,14 +35,12 @@ use Rattle.joins.specs.JoinChase.{chased, JoinChases}
 use Rattle.minimization.specs.Search as search
 use Rattle.minimization.proofs.Search.{mappable-exact}
 use Rattle.joins.proofs.Theorems.{join-chase-computes, join-contained-obeying, join-chased-counterexample}
-use Rattle.comparison.specs.declared.Verdict.{Verdict}
-use Rattle.comparison.specs.declared.Verdict.TheVariants.{Never, Mapped, Apart, Refused}
+use Rattle.std.specs.Prelude.{Ok, Err}
+use Rattle.comparison.specs.declared.Verdict.TheVariants.{Never, Mapped, Apart}
 use Rattle.refusals.specs.declared.Refusal.{Refusal}
 use Rattle.refusals.specs.Refusal.{number_of}
-use Rattle.refusals.proofs.Numbered.{number-same}
 use Rattle.comparison.specs.Comparison.{outcome_at, chased_at, pair_refusal, comparison_refusal, not_contained, contained_by_mapping, contained_as_never}
-use Rattle.comparison.specs.Comparison.{verdict_reply, verdict_on, verdict_of, base, Compared}
-use Rattle.comparison.specs.internal.Pairs.{bare}
+use Rattle.comparison.specs.Comparison.{verdict_on, verdict_of, base, Compared}
 use Rattle.comparison.proofs.Pairs.{standing, compare-ends}
 
 -- ---- the queries of two places
@@ -84,54 +81,17 @@ verdict-some : (rows : List (theory.Row theory.Entry)) (mapped : Bool) → rows 
 verdict-some [] mapped filled = absurd (filled refl)
 verdict-some (x ∷ xs) mapped filled = refl
 
--- What a verdict says determines it
-pub verdict-same : (v w : Verdict) → verdict_reply v ≡ verdict_reply w → v ≡ w
-verdict-same Never Never e = refl
-verdict-same Never Mapped e = let z : ◌≡◌ {A = ℕ} 2 1 = cc in absurd (omega arith)
-verdict-same Never Apart e = let z : ◌≡◌ {A = ℕ} 2 0 = cc in absurd (omega arith)
-verdict-same Never (Refused n) e = absurd (refused-gives (sym e))
-verdict-same Mapped Never e = let z : ◌≡◌ {A = ℕ} 1 2 = cc in absurd (omega arith)
-verdict-same Mapped Mapped e = refl
-verdict-same Mapped Apart e = let z : ◌≡◌ {A = ℕ} 1 0 = cc in absurd (omega arith)
-verdict-same Mapped (Refused n) e = absurd (refused-gives (sym e))
-verdict-same Apart Never e = let z : ◌≡◌ {A = ℕ} 0 2 = cc in absurd (omega arith)
-verdict-same Apart Mapped e = let z : ◌≡◌ {A = ℕ} 0 1 = cc in absurd (omega arith)
-verdict-same Apart Apart e = refl
-verdict-same Apart (Refused n) e = absurd (refused-gives (sym e))
-verdict-same (Refused n) Never e = absurd (refused-gives e)
-verdict-same (Refused n) Mapped e = absurd (refused-gives e)
-verdict-same (Refused n) Apart e = absurd (refused-gives e)
-verdict-same (Refused r) (Refused s) e = let z : number_of r ≡ number_of s = cc in ap Refused (number-same r s z)
-
--- The verdicts are different
-never-mapped : Never ≡ Mapped → ⊥
-never-mapped e = let z : ◌≡◌ {A = ℕ} 0 1 = cc in omega arith
-
-never-apart : Never ≡ Apart → ⊥
-never-apart e = let z : ◌≡◌ {A = ℕ} 0 1 = cc in omega arith
-
-mapped-apart : Mapped ≡ Apart → ⊥
-mapped-apart e = let z : ◌≡◌ {A = ℕ} 0 1 = cc in omega arith
-
-refused-mapped : (n : Refusal) → Refused n ≡ Mapped → ⊥
-refused-mapped n e = let z : ◌≡◌ {A = ℕ} 0 1 = cc in omega arith
-
-pub refused-apart : (n : Refusal) → Refused n ≡ Apart → ⊥
-refused-apart n e = let z : ◌≡◌ {A = ℕ} 0 1 = cc in omega arith
-
 -- ---- the cases
 
 -- Refused
-pub compared-refused : (r : Record) (p q : ℕ) (n : Refusal) → comparison_refusal r p q ≡ some (number_of n) → Compared r p q (bare (Refused n))
+pub compared-refused : (r : Record) (p q : ℕ) (n : Refusal) → comparison_refusal r p q ≡ some (number_of n) → Compared r p q (Err n)
 compared-refused r p q n refused =
     record {
       verdict = rw refused;
-      mapping = λ e. absurd (refused-mapped n e);
-      no-mapping = λ e. refl;
-      chased = λ e. absurd (refused-apart n e);
-      no-query = λ e. refl;
+      mapping = λ images e. absurd (cc);
+      chased = λ query e. absurd (cc);
       contained = λ e. absurd e;
-      apart = λ e. absurd (refused-apart n e);
+      apart = λ query e. absurd (cc);
     }
 
 -- The chase of the first query ends in a query
@@ -151,18 +111,16 @@ module _ (r : Record) (p q : ℕ) (accepted : pair_refusal r p q ≡ none) (fit 
   within why = join-contained-obeying (schema_of r) (dependencies_of r) (joins_of r) 24 (query_at r p) (query_at r q) (chased_at r p) fit chases why
 
   -- It is never
-  pub compared-never : (chased_at r p).rows ≡ [] → Compared r p q (bare Never)
+  pub compared-never : (chased_at r p).rows ≡ [] → Compared r p q (Ok Never)
   compared-never empty =
       record {
         verdict =
             verdict-is contained_as_never
             (ap (λ (rows : List (theory.Row theory.Entry)). verdict_on rows (search.mappable (query_at r q) (chased_at r p))) empty);
-        mapping = λ e. absurd (never-mapped e);
-        no-mapping = λ e. refl;
-        chased = λ e. absurd (never-apart e);
-        no-query = λ e. refl;
+        mapping = λ images e. absurd (cc);
+        chased = λ query e. absurd (cc);
         contained = λ e. within (inl empty);
-        apart = λ e. absurd (never-apart e);
+        apart = λ query e. absurd (cc);
       }
 
   module _ (filled : (chased_at r p).rows ≢ []) where
@@ -173,31 +131,37 @@ module _ (r : Record) (p q : ℕ) (accepted : pair_refusal r p q ≡ none) (fit 
 
     -- The second query maps to it
     pub compared-mapped : (images : List Cell) → answer.IsMapping (query_at r q) (chased_at r p) (images_of images)
-        → Compared r p q (record { verdict = Mapped; images = images; query = no_tableau })
+        → Compared r p q (Ok (Mapped images))
     compared-mapped images is =
         record {
           verdict = verdict-found true ((mappable-exact (query_at r q) (chased_at r p)).1 (images_of images, is));
-          mapping = λ e. is;
-          no-mapping = λ e. absurd (e refl);
-          chased = λ e. absurd (mapped-apart e);
-          no-query = λ e. refl;
+          mapping = λ others e. let same : images ≡ others = cc in subst (λ (l : List Cell). answer.IsMapping (query_at r q) (chased_at r p) (images_of l)) same is;
+          chased = λ query e. absurd (cc);
           contained = λ e. within (inr (images_of images, is));
-          apart = λ e. absurd (mapped-apart e);
+          apart = λ query e. absurd (cc);
         }
 
     -- It does not: the chased query, read as a database, shows it
     pub compared-apart : length (stored_at r p).cells ≡ 96 → (t : Tableau) → query_of (schema_of r) (as_query t) ≡ chased_at r p
         → good_tableau (schema_of r) t ≡ true → (answer.Mapping (query_at r q) (chased_at r p) → ⊥)
-        → Compared r p q (record { verdict = Apart; images = replicate 96 no_cell; query = t })
+        → Compared r p q (Ok (Apart t))
     compared-apart long t is good not =
         record {
           verdict = verdict-found false (unmappable (search.mappable (query_at r q) (chased_at r p)) refl);
-          mapping = λ e. absurd (mapped-apart (sym e));
-          no-mapping = λ e. refl;
-          chased = λ e. (is, good);
-          no-query = λ e. absurd (e refl);
+          mapping = λ images e. absurd (cc);
+          chased = λ query e.
+              let same : t ≡ query = cc in (
+                subst (λ (u : Tableau). query_of (schema_of r) (as_query u) ≡ chased_at r p) same is,
+                subst (λ (u : Tableau). good_tableau (schema_of r) u ≡ true) same good,
+              );
           contained = λ e. absurd e;
-          apart = λ e. shown;
+          apart = λ query e.
+              let same : t ≡ query = cc in
+              subst
+              (λ (u : Tableau).
+              containment.Counterexample (LegalForBoth (schema_of r) (dependencies_of r) (joins_of r)) (query_at r p) (query_at r q)
+              (containment.frozen_rows base (query_of (schema_of r) (as_query u))) (containment.frozen_head base (query_of (schema_of r) (as_query u))))
+              same shown;
         }
       where
         known : Queries r p q

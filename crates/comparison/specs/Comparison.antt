@@ -1,16 +1,16 @@
 -- What comparing two places and checking a mapping promise (demand 2). Which mapping a comparison returns is free; everything else is determined.
-use Rattle.std.specs.Prelude.{Result, ◌≡◌, Bool, true, false, not, cond, List, [], ◌∷◌, ◌++◌, ℕ, eqb, replicate}
+use Rattle.std.specs.Prelude.{Result, Ok, Err, ◌≡◌, Bool, true, false, not, cond, List, [], ◌∷◌, ◌++◌, ℕ, eqb, length}
 use Rattle.std.proofs.Math.Option.{Option}
 use Rattle.query.specs.declared.Cell.{Cell}
+use Rattle.query.specs.Types.{Tableau}
 use Rattle.record.specs.declared.Record.{Record}
 use Rattle.query.specs.View.{entries_of, query_of, as_query, images_of}
 use Rattle.record.specs.View.{schema_of, dependencies_of, joins_of}
-use Rattle.query.specs.Rule.{good_tableau, no_cell, no_tableau}
+use Rattle.query.specs.Rule.{good_tableau, shaped_tableau}
 use Rattle.refusals.specs.Refusals.{Condition, first_holding, heads_differ, too_many_rows, Reply, refused, gives, reply}
 use Rattle.record.specs.Calls.{broken_record, unknown_place, vacant, stored_at, query_at}
 use Rattle.comparison.specs.declared.Verdict.{Verdict}
-use Rattle.comparison.specs.declared.Verdict.TheVariants.{Never, Mapped, Apart, Refused}
-use Rattle.comparison.specs.declared.Comparison.{Comparison}
+use Rattle.comparison.specs.declared.Verdict.TheVariants.{Never, Mapped, Apart}
 use Rattle.refusals.specs.declared.Refusal.{Refusal}
 use Rattle.refusals.specs.Refusal.{number_of, reply_of}
 use Rattle.theory.specs.Query as theory
@@ -68,12 +68,16 @@ contained_by_mapping = 1
 abbrev pub contained_as_never : ℕ
 contained_as_never = 2
 
--- What each case of a verdict says: one of these, or refused with a number
-abbrev pub verdict_reply : Verdict → Reply ℕ
-verdict_reply Apart = gives not_contained
-verdict_reply Mapped = gives contained_by_mapping
-verdict_reply Never = gives contained_as_never
-verdict_reply (Refused refusal) = refused (number_of refusal)
+-- A verdict as one of these
+abbrev pub verdict_number : Verdict → ℕ
+verdict_number (Apart query) = not_contained
+verdict_number (Mapped images) = contained_by_mapping
+verdict_number Never = contained_as_never
+
+-- What a comparison says: one of these, or refused with a number
+abbrev pub verdict_reply : Result Verdict Refusal → Reply ℕ
+verdict_reply (Ok verdict) = gives (verdict_number verdict)
+verdict_reply (Err refusal) = refused (number_of refusal)
 
 -- The verdict on a chased query: never is contained, without a mapping; otherwise it is contained exactly when the second query can be mapped to it
 abbrev pub verdict_on : List (theory.Row theory.Entry) → Bool → ℕ
@@ -88,28 +92,34 @@ verdict_of r p q = reply (comparison_refusal r p q) (verdict_on (chased_at r p).
 abbrev pub base : ℕ
 base = 2147483648
 
--- A verdict that says contained
-abbrev pub SaysContained : Verdict → Type 0
-SaysContained Never = Unit {0}
-SaysContained Mapped = Unit {0}
-SaysContained Apart = ⊥
-SaysContained (Refused refusal) = ⊥
+-- A comparison that says contained
+abbrev pub SaysContained : Result Verdict Refusal → Type 0
+SaysContained (Ok Never) = Unit {0}
+SaysContained (Ok (Mapped images)) = Unit {0}
+SaysContained (Ok (Apart query)) = ⊥
+SaysContained (Err refusal) = ⊥
 
 -- What comparing places p and q promises.
--- The verdict, and what it holds: a mapping from q's query to p's chased query where it is contained with one, p's chased query where it is not contained,
--- and 0 in every field not in use. And demand 2: contained means that each answer of p is an answer of q on every database that obeys the dependencies of
--- both kinds; not contained, that the chased query read as a database shows the contrary
-pub record Compared (r : Record) (p q : ℕ) (c : Comparison) : Type 0 where
-  pub verdict : verdict_reply c.verdict ≡ verdict_of r p q
-  pub mapping : c.verdict ≡ Mapped → answer.IsMapping (query_at r q) (chased_at r p) (images_of c.images)
-  pub no-mapping : (c.verdict ≡ Mapped → ⊥) → c.images ≡ replicate 96 no_cell
-  pub chased : c.verdict ≡ Apart → (query_of (schema_of r) (as_query c.query) ≡ chased_at r p) × (good_tableau (schema_of r) c.query ≡ true)
-  pub no-query : (c.verdict ≡ Apart → ⊥) → c.query ≡ no_tableau
-  pub contained : SaysContained c.verdict
+-- The verdict, and what it holds: a mapping from q's query to p's chased query where it is contained with one, p's chased query where it is not contained.
+-- And demand 2: contained means that each answer of p is an answer of q on every database that obeys the dependencies of both kinds; not contained, that the
+-- chased query read as a database shows the contrary
+pub record Compared (r : Record) (p q : ℕ) (c : Result Verdict Refusal) : Type 0 where
+  pub verdict : verdict_reply c ≡ verdict_of r p q
+  pub mapping : (images : List Cell) → c ≡ Ok (Mapped images) → answer.IsMapping (query_at r q) (chased_at r p) (images_of images)
+  pub chased : (query : Tableau) → c ≡ Ok (Apart query)
+      → (query_of (schema_of r) (as_query query) ≡ chased_at r p) × (good_tableau (schema_of r) query ≡ true)
+  pub contained : SaysContained c
       → containment.Contained (ObeysBoth (schema_of r) (dependencies_of r) (joins_of r)) (query_at r p) (query_at r q)
-  pub apart : c.verdict ≡ Apart
+  pub apart : (query : Tableau) → c ≡ Ok (Apart query)
       → containment.Counterexample (LegalForBoth (schema_of r) (dependencies_of r) (joins_of r)) (query_at r p) (query_at r q)
-      (containment.frozen_rows base (query_of (schema_of r) (as_query c.query))) (containment.frozen_head base (query_of (schema_of r) (as_query c.query)))
+      (containment.frozen_rows base (query_of (schema_of r) (as_query query))) (containment.frozen_head base (query_of (schema_of r) (as_query query)))
+
+-- The arrays of a comparison are as long as their types say
+abbrev pub ComparisonShape : Result Verdict Refusal → Type 0
+ComparisonShape (Ok Never) = Unit {0}
+ComparisonShape (Ok (Mapped images)) = length images ≡ 96
+ComparisonShape (Ok (Apart query)) = shaped_tableau query ≡ true
+ComparisonShape (Err refusal) = Unit {0}
 
 -- What checking a mapping for places p and q promises: the refusal, or yes exactly when the images are a mapping from q's query to p's query as it is stored.
 -- `maps_to` is a test that says yes exactly to the mappings (`minimization/specs/Checking`)

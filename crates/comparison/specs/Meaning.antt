@@ -1,5 +1,5 @@
 -- What the promises of the two calls come to. Each statement is proved in `proofs/Meaning`.
-use Rattle.std.specs.Prelude.{Result, Ok, Bool, true, false, ◌≡◌, ◌↔◌, true, List, ℕ}
+use Rattle.std.specs.Prelude.{Result, Ok, Bool, true, false, ◌≡◌, ◌↔◌, ◌⊎◌, List, ℕ}
 use Rattle.std.proofs.Math.Option.{none}
 use Rattle.theory.specs.Answer.{IsMapping}
 use Rattle.theory.specs.Chase.{chase}
@@ -7,14 +7,15 @@ use Rattle.lists.specs.Tests.{every}
 use Rattle.joins.specs.JoinChase.{Outcome, chased, JoinChases}
 use Rattle.query.specs.declared.Cell.{Cell}
 use Rattle.query.specs.View.{images_of}
-use Rattle.query.specs.Rule.{shaped_join, shaped_tableau}
+use Rattle.query.specs.Rule.{shaped_join}
 use Rattle.record.specs.declared.Record.{Record}
 use Rattle.record.specs.View.{schema_of, dependencies_of, joins_of}
 use Rattle.record.specs.Rule.{good_record}
 use Rattle.record.specs.Calls.{query_at}
-use Rattle.comparison.specs.declared.Comparison.{Comparison}
+use Rattle.comparison.specs.declared.Verdict.{Verdict}
+use Rattle.comparison.specs.declared.Verdict.TheVariants.{Mapped}
 use Rattle.refusals.specs.declared.Refusal.{Refusal}
-use Rattle.comparison.specs.Comparison.{pair_refusal, outcome_at, Compared, CheckedMapping}
+use Rattle.comparison.specs.Comparison.{pair_refusal, outcome_at, Compared, ComparisonShape, CheckedMapping}
 
 -- Checking says yes exactly when the two places are not refused and the images are a mapping from q's query to p's, both as they are stored. A mapping takes
 -- each variable that q's query does not have to constant 0
@@ -29,11 +30,11 @@ CheckDenies =
     (r : Record) (p q : ℕ) (images : List Cell) (c : Result Bool Refusal) → CheckedMapping r p q images c
     → (c ≡ Ok false) ↔ ((pair_refusal r p q ≡ none) × (IsMapping (query_at r q) (query_at r p) (images_of images) → ⊥))
 
--- Two comparisons of the same places, with arrays as long as their types say, have the same verdict and the same query
+-- Two comparisons of the same places, with arrays as long as their types say, are the same but for the mapping
 abbrev pub ComparedOnce : Type 0
 ComparedOnce =
-    (r : Record) (p q : ℕ) (c d : Comparison) → shaped_tableau c.query ≡ true → shaped_tableau d.query ≡ true → Compared r p q c → Compared r p q d
-    → (c.verdict ≡ d.verdict) × (c.query ≡ d.query)
+    (r : Record) (p q : ℕ) (c d : Result Verdict Refusal) → ComparisonShape c → ComparisonShape d → Compared r p q c → Compared r p q d
+    → (c ≡ d) ⊎ ((images others : List Cell) × (c ≡ Ok (Mapped images)) × (d ≡ Ok (Mapped others)))
 
 -- With no join dependency held the chase is that with the functional dependencies, repeated rows and all, and has room
 abbrev pub FunctionalAlone : Type 0

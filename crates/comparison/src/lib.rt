@@ -3,9 +3,9 @@
 
 ghost use Rattle.std.specs.Prelude.{◌≡◌};
 ghost use Rattle.std.proofs.Math.Option.{none};
-ghost use Rattle.comparison.specs.Comparison.{pair_refusal, Compared, CheckedMapping};
+ghost use Rattle.comparison.specs.Comparison.{pair_refusal, Compared, ComparisonShape, CheckedMapping};
 ghost use Rattle.refusals.specs.Refusal.{reply_of};
-ghost use Rattle.comparison.specs.internal.Pairs.{looked_up, bare};
+ghost use Rattle.comparison.specs.internal.Pairs.{looked_up};
 
 use query::{Cell, Tableau};
 use record::Record;
@@ -20,24 +20,16 @@ pub const CONTAINED_BY_MAPPING: u8 = 1;
 // Contained because the first query chases to never.
 pub const CONTAINED_AS_NEVER: u8 = 2;
 
-// What a comparison says: contained because the first query chases to never, contained by a mapping, not contained, or refused.
+// What a comparison says: contained because the first query chases to never, contained by a mapping, or not contained, with the first query, chased.
 #[derive(Clone, Copy)]
 pub enum Verdict {
     Never,
-    Mapped,
-    Apart,
-    Refused(Refusal),
-}
-
-// A comparison: its verdict, the mapping where it is contained by one, and the first query, chased, where it is not contained.
-#[derive(Clone, Copy)]
-pub struct Comparison {
-    pub verdict: Verdict,
-    pub images: [Cell; 96],
-    pub query: Tableau,
+    Mapped([Cell; 96]),
+    Apart(Tableau),
 }
 
 // Two places to be read whose heads have one length, or the refusal, in the order of SPECIFICATION, Refusals.
+// Kept as it is: a lookup answers with the index or a refusal, and `let .. else` takes the index.
 fn filled_pair(given: Record, p: usize, q: usize) -> Result<(usize, usize), Refusal>
     ensures { reply_of result ≡ looked_up given p q }
 {
@@ -68,65 +60,36 @@ fn filled_pair(given: Record, p: usize, q: usize) -> Result<(usize, usize), Refu
     Ok((first, second))
 }
 
-// A comparison with nothing but its verdict.
-fn only(verdict: Verdict) -> Comparison
-    ensures { result ≡ bare verdict }
-{
-    let blank = query::NO_CELL;
-    Comparison {
-        verdict: verdict,
-        images: [blank; 96],
-        query: Tableau::never(0),
-    }
-}
-
 // The comparison of two places that are not refused: the query of the first is chased, that of the second is not.
-fn compare_places(given: Record, p: usize, q: usize) -> Comparison
+fn compare_places(given: Record, p: usize, q: usize) -> Result<Verdict, Refusal>
     requires { pair_refusal given p q ≡ none }
-    ensures { Compared given p q result }
+    ensures compared { Compared given p q result }
+    ensures shape { ComparisonShape result }
 {
-    let widths = given.widths;
-    let dependencies = given.dependencies;
-    let joins = given.joins;
     let chased = join_chase::chase(
         from_query(stored(given, p)),
-        given.relations,
-        widths,
-        dependencies,
-        given.held as usize,
-        joins,
-        given.joined as usize,
+        &given.widths[..given.relations as usize],
+        &given.dependencies[..given.held as usize],
+        &given.joins[..given.joined as usize],
     );
     let Some(query) = chased else {
-        return only(Verdict::Refused(Refusal::TooManyRows));
+        return Err(Refusal::TooManyRows);
     };
     if query.size == 0 {
-        return only(Verdict::Never);
+        return Ok(Verdict::Never);
     }
-    let mapped = mapping::find(stored(given, q), query);
-    let images = mapped.images;
-    if mapped.found {
-        return Comparison {
-            verdict: Verdict::Mapped,
-            images: images,
-            query: Tableau::never(0),
-        };
-    }
-    Comparison {
-        verdict: Verdict::Apart,
-        images: images,
-        query: query,
+    match mapping::find(stored(given, q), query) {
+        Some(images) => Ok(Verdict::Mapped(images)),
+        None => Ok(Verdict::Apart(query)),
     }
 }
 
 // Whether the query of place p is contained in that of place q.
-pub fn compare(given: Record, p: usize, q: usize) -> Comparison
-    ensures { Compared given p q result }
+pub fn compare(given: Record, p: usize, q: usize) -> Result<Verdict, Refusal>
+    ensures compared { Compared given p q result }
+    ensures shape { ComparisonShape result }
 {
-    let found = filled_pair(given, p, q);
-    let Ok((first, second)) = found else {
-        return only(Verdict::Refused(found.unwrap_err()));
-    };
+    let (first, second) = filled_pair(given, p, q)?;
     compare_places(given, first, second)
 }
 
@@ -134,9 +97,6 @@ pub fn compare(given: Record, p: usize, q: usize) -> Comparison
 pub fn check_mapping(given: Record, p: usize, q: usize, images: [Cell; 96]) -> Result<bool, Refusal>
     ensures { CheckedMapping given p q images result }
 {
-    let found = filled_pair(given, p, q);
-    let Ok((first, second)) = found else {
-        return Err(found.unwrap_err());
-    };
+    let (first, second) = filled_pair(given, p, q)?;
     Ok(mapping::check(stored(given, second), stored(given, first), images))
 }

@@ -12,11 +12,12 @@ use Rattle.query.specs.View.{entries_of, images_of}
 use Rattle.record.specs.declared.Record.{Record}
 use Rattle.record.specs.Calls.{query_at}
 use Rattle.format.specs.Format.{Reading, none, got}
-use Rattle.mapping.specs.declared.Mapped.{Mapped}
 use Rattle.mapping.proofs.Checked.{test-tells}
 use Rattle.mapping_words.specs.Images.{images_in}
 use Rattle.mapping_words.specs.internal.Steps.{mapping_read}
-use Rattle.std.specs.Prelude.{Result, Ok, Err}
+use Rattle.std.specs.Prelude.{Result, Ok, Err, Option as Maybe, Some, None, is_some, unwrap_or}
+use lib.ListN.{replicate}
+use Rattle.query.specs.Rule.{no_cell}
 use Rattle.refusals.specs.declared.Refusal.{Refusal}
 use Rattle.refusals.specs.Refusal.{number_of, reply_of}
 use Rattle.comparison.specs.Comparison.{pair_refusal, CheckedMapping}
@@ -28,24 +29,18 @@ use Rattle.comparison_on_files.specs.Queries.{reading_maps, words_map, bit, Word
 
 -- ---- what is read, and what the test says of it
 
-module _ (S T : theory.Query) (m : Mapped) where
+module _ (S T : theory.Query) where
   -- Words that stand for images are tested as these
-  found : (o : Reading (List Cell)) → m ≡ mapping_read o → m.found ≡ true → reading_maps S T o ≡ maps_to S T (entries_of m.images)
-  found none e g = let z : ◌≡◌ {A = ℕ} 0 1 = cc in absurd (omega arith)
-  found (got images []) e g = let k : images ≡ m.images = cc in ap (λ (x : List Cell). maps_to S T (entries_of x)) k
-  found (got images (w ∷ ws)) e g = let z : ◌≡◌ {A = ℕ} 0 1 = cc in absurd (omega arith)
+  found : (o : Reading (List Cell)) (images : List Cell) → Some images ≡ mapping_read o → reading_maps S T o ≡ maps_to S T (entries_of images)
+  found none images e = absurd (cc)
+  found (got others []) images e = let k : others ≡ images = cc in ap (λ (x : List Cell). maps_to S T (entries_of x)) k
+  found (got others (w ∷ ws)) images e = absurd (cc)
 
   -- Other words are no mapping
-  missed : (o : Reading (List Cell)) → m ≡ mapping_read o → m.found ≡ false → reading_maps S T o ≡ false
-  missed none e g = refl
-  missed (got images []) e g = let z : ◌≡◌ {A = ℕ} 0 1 = cc in absurd (omega arith)
-  missed (got images (w ∷ ws)) e g = refl
-
-  -- Nor is what does not map
-  apart : (o : Reading (List Cell)) → m ≡ mapping_read o → maps_to S T (entries_of m.images) ≡ false → reading_maps S T o ≡ false
-  apart none e g = refl
-  apart (got images []) e g = let k : images ≡ m.images = cc in ap (λ (x : List Cell). maps_to S T (entries_of x)) k ∙ g
-  apart (got images (w ∷ ws)) e g = refl
+  missed : (o : Reading (List Cell)) → None ≡ mapping_read o → reading_maps S T o ≡ false
+  missed none e = refl
+  missed (got images []) e = absurd (cc)
+  missed (got images (w ∷ ws)) e = refl
 
 -- ---- a reply, with another value
 
@@ -66,44 +61,42 @@ Says x said number said' = (number ≡ returned x) × (said' ≡ leaves x bit sa
 pub says_same : {x y : Reply Bool} → x ≡ y → (said number said' : ℕ) → Says y said number said' → Says x said number said'
 says_same p said number said' w = (w.0 ∙ ap returned (sym p), w.1 ∙ ap (λ (z : Reply Bool). leaves z bit said) (sym p))
 
-module _ (r : Record) (p q : ℕ) (words : List ℕ) (m : Mapped) (e : m ≡ mapping_read (images_in words)) (c : Result Bool Refusal)
-    (is : CheckedMapping r p q m.images c) (said : ℕ) where
-  -- What the call below says of the images
-  abbrev maps : Bool
-  maps = maps_to (query_at r q) (query_at r p) (entries_of m.images)
+-- The images that are checked: those that were read, or constant 0 of each variable
+abbrev pub checked_images : Maybe (List Cell) → List Cell
+checked_images m = unwrap_or m (replicate 96 no_cell)
 
-  -- and what is to be said of the words
+module _ (r : Record) (p q : ℕ) (words : List ℕ) where
+  -- What is to be said of the words
   abbrev due : Reply Bool
   due = reply (pair_refusal r p q) (words_map r p q words)
 
-  pub check-refused : (why : Refusal) → c ≡ Err why → Says due said (number_of why) said
-  check-refused why k =
-      let n : ℕ = number_of why in
-      says_same (still (pair_refusal r p q) n maps (words_map r p q words) (ap reply_of (sym k) ∙ is)) said n said (refl, refl)
+  module _ (images : List Cell) (c : Result Bool Refusal) (is : CheckedMapping r p q images c) (said : ℕ) where
+    -- What the call below says of the images
+    abbrev maps : Bool
+    maps = maps_to (query_at r q) (query_at r p) (entries_of images)
 
-  check-yes : c ≡ Ok true → m.found ≡ true → Says due said 0 1
-  check-yes k g =
-      let t = replied (pair_refusal r p q) true maps (words_map r p q words) (ap reply_of (sym k) ∙ is) in
-      let w : words_map r p q words ≡ true = found (query_at r q) (query_at r p) m (images_in words) e g ∙ t.0 in
-      says_same (t.1 ∙ ap gives w) said 0 1 (refl, refl)
+    pub check-refused : (why : Refusal) → c ≡ Err why → Says due said (number_of why) said
+    check-refused why k =
+        let n : ℕ = number_of why in
+        says_same (still (pair_refusal r p q) n maps (words_map r p q words) (ap reply_of (sym k) ∙ is)) said n said (refl, refl)
 
-  check-bad : c ≡ Ok true → m.found ≡ false → Says due said 0 0
-  check-bad k g =
-      let t = replied (pair_refusal r p q) true maps (words_map r p q words) (ap reply_of (sym k) ∙ is) in
-      let w : words_map r p q words ≡ false = missed (query_at r q) (query_at r p) m (images_in words) e g in
-      says_same (t.1 ∙ ap gives w) said 0 0 (refl, refl)
-
-  check-no : c ≡ Ok false → Says due said 0 0
-  check-no k =
-      let t = replied (pair_refusal r p q) false maps (words_map r p q words) (ap reply_of (sym k) ∙ is) in
-      let w : words_map r p q words ≡ false = apart (query_at r q) (query_at r p) m (images_in words) e t.0 in
-      says_same (t.1 ∙ ap gives w) said 0 0 (refl, refl)
+    -- What is said where the test of the words says b
+    pub check-said : (t b : Bool) → c ≡ Ok t → (maps ≡ t → words_map r p q words ≡ b) → Says due said 0 (bit b)
+    check-said t b k w =
+        let tells = replied (pair_refusal r p q) t maps (words_map r p q words) (ap reply_of (sym k) ∙ is) in
+        says_same (tells.1 ∙ ap gives (w tells.0)) said 0 (bit b) (refl, refl)
 
   -- Yes where the images are a mapping and were read off the words
-  pub check-told : (t f : Bool) → c ≡ Ok t → m.found ≡ f → Says due said 0 (bit (t && f))
-  check-told true true k g = check-yes k g
-  check-told true false k g = check-bad k g
-  check-told false f k g = check-no k
+  pub check-told : (m : Maybe (List Cell)) → m ≡ mapping_read (images_in words) → (c : Result Bool Refusal)
+      → CheckedMapping r p q (checked_images m) c → (said : ℕ) (t : Bool) → c ≡ Ok t → Says due said 0 (bit (t && is_some m))
+  check-told (Some images) e c is said true k =
+      check-said images c is said true true k (λ f. found (query_at r q) (query_at r p) (images_in words) images e ∙ f)
+  check-told (Some images) e c is said false k =
+      check-said images c is said false false k (λ f. found (query_at r q) (query_at r p) (images_in words) images e ∙ f)
+  check-told None e c is said true k =
+      check-said (replicate 96 no_cell) c is said true false k (λ f. missed (query_at r q) (query_at r p) (images_in words) e)
+  check-told None e c is said false k =
+      check-said (replicate 96 no_cell) c is said false false k (λ f. missed (query_at r q) (query_at r p) (images_in words) e)
 
 -- ---- what the test means
 

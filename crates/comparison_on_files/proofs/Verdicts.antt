@@ -16,13 +16,15 @@ use Rattle.lists.specs.Over.{over}
 use Rattle.format.specs.Parts.{query_for}
 use Rattle.format.specs.File.{read_file}
 use Rattle.lists.proofs.Over.{over-nil}
-use Rattle.comparison.specs.declared.Comparison.{Comparison}
+use Rattle.std.specs.Prelude.{Result, Ok, Err}
+use Rattle.query.specs.Types.{Tableau}
+use Rattle.comparison.specs.declared.Verdict.{Verdict}
 use Rattle.comparison.specs.declared.Verdict.TheVariants as verdict
 use Rattle.refusals.specs.declared.Refusal.{Refusal}
 use Rattle.refusals.specs.Refusal.{number_of}
-use Rattle.comparison.specs.Comparison.{not_contained, Compared}
+use Rattle.comparison.specs.Comparison.{Compared, ComparisonShape}
 use Rattle.mapping_words.specs.Images.{mapping_words}
-use Rattle.comparison_on_files.specs.Queries.{with_part, comparison_fits, ComparisonGiven, ComparisonShape, Comparing, CompareGives}
+use Rattle.comparison_on_files.specs.Queries.{with_part, images_told, comparison_fits, ComparisonGiven, Comparing, CompareGives}
 use Rattle.comparison_on_files.specs.internal.Steps.{verdict_fits}
 
 -- ---- what a comparison leaves
@@ -73,42 +75,42 @@ module _ (images : List Cell) (said : ℕ) (mapping part : List ℕ) (size : ℕ
 
 -- where there is room for a mapping or not, and for the bytes or not
 fits-when : (enough : Bool) (room number : ℕ) (bytes : List ℕ)
-    → (cond enough (gives number) (refused buffer_too_short) >>= λ n. with_part room (n, cond (eqb n not_contained) bytes []))
-    ≡ cond (enough && leb (length (cond (eqb number not_contained) bytes [])) room) (gives (number, cond (eqb number not_contained) bytes []))
-    (refused buffer_too_short)
+    → (cond enough (gives number) (refused buffer_too_short) >>= λ n. with_part room (n, bytes))
+    ≡ cond (enough && leb (length bytes) room) (gives (number, bytes)) (refused buffer_too_short)
 unfolding ◌>>=◌
 fits-when true room number bytes = refl
 fits-when false room number bytes = refl
 
-module _ (words room : ℕ) (schema : List ℕ) (c : Comparison) where
-  pub comparison-apart : c.verdict ≡ verdict.Apart
-      → comparison_fits words room schema c ≡ verdict_fits words room (0, (query_for 24 schema).put (as_query c.query))
-  comparison-apart e = rw e (fits-when (leb 192 words) room 0 ((query_for 24 schema).put (as_query c.query)))
+module _ (words room : ℕ) (schema : List ℕ) where
+  pub comparison-apart : (query : Tableau)
+      → comparison_fits words room schema (Ok (verdict.Apart query)) ≡ verdict_fits words room (0, (query_for 24 schema).put (as_query query))
+  comparison-apart query = fits-when (leb 192 words) room 0 ((query_for 24 schema).put (as_query query))
 
-  pub comparison-contained : c.verdict ≡ verdict.Mapped → comparison_fits words room schema c ≡ verdict_fits words room (1, [])
-  comparison-contained e = rw e (fits-when (leb 192 words) room 1 ((query_for 24 schema).put (as_query c.query)))
+  pub comparison-contained : (images : List Cell) → comparison_fits words room schema (Ok (verdict.Mapped images)) ≡ verdict_fits words room (1, [])
+  comparison-contained images = fits-when (leb 192 words) room 1 []
 
-  pub comparison-never : c.verdict ≡ verdict.Never → comparison_fits words room schema c ≡ verdict_fits words room (2, [])
-  comparison-never e = rw e (fits-when (leb 192 words) room 2 ((query_for 24 schema).put (as_query c.query)))
+  pub comparison-never : comparison_fits words room schema (Ok verdict.Never) ≡ verdict_fits words room (2, [])
+  comparison-never = fits-when (leb 192 words) room 2 []
 
-  pub comparison-refused : (why : Refusal) → c.verdict ≡ verdict.Refused why
-      → comparison_fits words room schema c ≡ refused (cond (eqb (number_of why) too_many_rows && ltb words 192) buffer_too_short (number_of why))
+  pub comparison-refused : (why : Refusal)
+      → comparison_fits words room schema (Err why)
+      ≡ refused (cond (eqb (number_of why) too_many_rows && ltb words 192) buffer_too_short (number_of why))
   unfolding ◌>>=◌
-  comparison-refused why e = rw e
+  comparison-refused why = refl
 
 -- ---- the exported call
 
 module _ (file : List ℕ) (p q said : ℕ) (mapping part : List ℕ) (size : ℕ) where
-  pub compare-done : (r : Record) → read_file file ≡ gives r → (c : Comparison) → Compared r p q c → ComparisonShape c
+  pub compare-done : (r : Record) → read_file file ≡ gives r → (c : Result Verdict Refusal) → Compared r p q c → ComparisonShape c
       → (number said' : ℕ) (mapping' part' : List ℕ) (size' : ℕ)
-      → ComparisonGiven (comparison_fits (length mapping) (length part) (schema_of r) c) c.images said mapping part size number said' mapping' part' size'
+      → ComparisonGiven (comparison_fits (length mapping) (length part) (schema_of r) c) (images_told c) said mapping part size number said' mapping' part' size'
       → CompareGives file p q said mapping part size number said' mapping' part' size'
   compare-done r e c is shape number said' mapping' part' size' w =
       record {
         result = comparison_fits (length mapping) (length part) (schema_of r) c;
-        images = c.images;
+        images = images_told c;
         comparing =
-            subst (λ (x : Reply Record). Comparing x p q (comparison_fits (length mapping) (length part) (schema_of r) c) c.images (length mapping)
+            subst (λ (x : Reply Record). Comparing x p q (comparison_fits (length mapping) (length part) (schema_of r) c) (images_told c) (length mapping)
             (length part)) (sym e)
             (c, is, shape, refl, refl);
         given = w;

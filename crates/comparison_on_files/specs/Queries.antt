@@ -1,5 +1,5 @@
 -- Comparing and checking a mapping, on files. How a mapping is words is in `mapping_words/specs/Images`.
-use Rattle.std.specs.Prelude.{◌≡◌, ◌↔◌, Bool, true, false, cond, ◌&&◌, List, [], ◌∷◌, ℕ, eqb, leb, ltb, length}
+use Rattle.std.specs.Prelude.{Result, Ok, Err, ◌≡◌, ◌↔◌, Bool, true, false, cond, ◌&&◌, List, [], ◌∷◌, ℕ, eqb, leb, ltb, length, replicate}
 use Rattle.refusals.specs.Refusals.{◌>>=◌, buffer_too_short, too_many_rows, gives, refused, Reply, reply}
 use Rattle.record.specs.Calls.{query_at}
 use Rattle.query.specs.declared.Cell.{Cell}
@@ -10,10 +10,12 @@ use Rattle.format.specs.Format.{Reading, none, got}
 use Rattle.format.specs.Parts.{query_for}
 use Rattle.format.specs.File.{read_file}
 use Rattle.query.specs.View.{entries_of, as_query, images_of}
-use Rattle.query.specs.Rule.{shaped_tableau}
+use Rattle.query.specs.Rule.{no_cell}
 use Rattle.mapping_words.specs.Images.{mapping_words, images_in}
-use Rattle.comparison.specs.declared.Comparison.{Comparison}
-use Rattle.comparison.specs.Comparison.{not_contained, verdict_reply, pair_refusal, Compared}
+use Rattle.comparison.specs.declared.Verdict.{Verdict}
+use Rattle.comparison.specs.declared.Verdict.TheVariants.{Never, Mapped, Apart}
+use Rattle.refusals.specs.declared.Refusal.{Refusal}
+use Rattle.comparison.specs.Comparison.{verdict_reply, pair_refusal, Compared, ComparisonShape}
 use Rattle.theory.specs.Query as theory
 use Rattle.theory.specs.Answer as answer
 use Rattle.minimization.specs.Checking.{maps_to}
@@ -31,11 +33,23 @@ with_mapping words (refused n) = refused (cond (eqb n too_many_rows && ltb words
 abbrev pub with_part : ℕ → ℕ × List ℕ → Reply (ℕ × List ℕ)
 with_part room found = cond (leb (length found.1) room) (gives found) (refused buffer_too_short)
 
--- The verdict of a comparison with the bytes of its query, which is given only where it is not contained, for buffers with so much room
-abbrev pub comparison_fits : ℕ → ℕ → List ℕ → Comparison → Reply (ℕ × List ℕ)
-comparison_fits words room schema c =
-    with_mapping words (verdict_reply c.verdict) >>=
-    λ number. with_part room (number, cond (eqb number not_contained) ((query_for 24 schema).put (as_query c.query)) [])
+-- The bytes of the query of a comparison, which is given only where it is not contained
+abbrev pub part_told : List ℕ → Result Verdict Refusal → List ℕ
+part_told schema (Ok (Apart query)) = (query_for 24 schema).put (as_query query)
+part_told schema (Ok (Mapped images)) = []
+part_told schema (Ok Never) = []
+part_told schema (Err refusal) = []
+
+-- Its images: constant 0 of each variable where there is no mapping
+abbrev pub images_told : Result Verdict Refusal → List Cell
+images_told (Ok (Apart query)) = replicate 96 no_cell
+images_told (Ok (Mapped images)) = images
+images_told (Ok Never) = replicate 96 no_cell
+images_told (Err refusal) = replicate 96 no_cell
+
+-- The verdict of a comparison with these bytes, for buffers with so much room
+abbrev pub comparison_fits : ℕ → ℕ → List ℕ → Result Verdict Refusal → Reply (ℕ × List ℕ)
+comparison_fits words room schema c = with_mapping words (verdict_reply c) >>= λ number. with_part room (number, part_told schema c)
 
 -- What a comparison returns and leaves: the verdict, the mapping's words, the bytes of the query with their length
 abbrev pub ComparisonGiven : Reply (ℕ × List ℕ) → List Cell → ℕ → List ℕ → List ℕ → ℕ → ℕ → ℕ → List ℕ → List ℕ → ℕ → Type 0
@@ -44,15 +58,11 @@ ComparisonGiven result images said mapping part size number said_after mapping_a
     × (mapping_after ≡ leaves result (λ _. over mapping 0 (mapping_words images)) mapping)
     × (part_after ≡ leaves result (λ t. over part 0 t.1) part) × (size_after ≡ leaves result (λ t. length t.1) size)
 
--- The arrays of a comparison are as long as their types say, as those of a reduction
-abbrev pub ComparisonShape : Comparison → Type 0
-ComparisonShape c = (shaped_tableau c.query ≡ true) × (length c.images ≡ 96)
-
 -- A comparison of two places of the record of a file: a refusal of the file, or what comparing promises. Which mapping is free
 abbrev pub Comparing : Reply Record → ℕ → ℕ → Reply (ℕ × List ℕ) → List Cell → ℕ → ℕ → Type 0
 Comparing (refused n) p q result images words room = result ≡ refused n
 Comparing (gives r) p q result images words room =
-    (c : Comparison) × Compared r p q c × ComparisonShape c × (images ≡ c.images) × (result ≡ comparison_fits words room (schema_of r) c)
+    (c : Result Verdict Refusal) × Compared r p q c × ComparisonShape c × (images ≡ images_told c) × (result ≡ comparison_fits words room (schema_of r) c)
 
 -- What `spernevan_compare` promises: a comparison of the two places, returned and left as above
 pub record CompareGives (file : List ℕ) (p q said : ℕ) (mapping part : List ℕ) (size number said_after : ℕ) (mapping_after part_after : List ℕ) (size_after : ℕ) : Type 0 where

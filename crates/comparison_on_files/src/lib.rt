@@ -1,18 +1,18 @@
 // Comparing and checking a mapping on files: what each call leaves in what it is lent.
 #![tactic(auto)]
 
-ghost use Rattle.std.specs.Prelude.{◌≡◌, true, cond, ◌&&◌, [], eqb, ltb, length, take};
+ghost use Rattle.std.specs.Prelude.{◌≡◌, true, cond, ◌&&◌, [], eqb, ltb, length, take, replicate};
 ghost use Rattle.query.specs.View.{as_query};
-ghost use Rattle.query.specs.Rule.{good_relations, good_tableau};
+ghost use Rattle.query.specs.Rule.{good_relations, good_tableau, no_cell};
 ghost use Rattle.format.specs.Parts.{query_for};
 ghost use Rattle.refusals.specs.Refusals.{reply, buffer_too_short, too_many_rows};
 ghost use Rattle.refusals.specs.Refusal.{number_of, reply_of};
 ghost use Rattle.comparison.specs.Comparison.{pair_refusal};
 ghost use Rattle.lent_numbers.specs.Lent.{returned, leaves};
-ghost use Rattle.comparison_on_files.specs.Queries.{comparison_fits, ComparisonGiven, CompareGives, words_map, checked_in, bit};
+ghost use Rattle.comparison_on_files.specs.Queries.{comparison_fits, images_told, ComparisonGiven, CompareGives, words_map, checked_in, bit};
 ghost use Rattle.comparison_on_files.specs.internal.Steps.{SoundComparison, verdict_fits};
 
-use comparison::{Comparison, Verdict};
+use comparison::Verdict;
 use encoder::{put_query, query_length};
 use mapping_words::{put_mapping, read_mapping};
 use query::{Cell, Tableau};
@@ -42,10 +42,9 @@ fn store_contained(
     Ok(())
 }
 
-// Stores the verdict that the first query is not contained, with its chased query.
+// Stores the verdict that the first query is not contained, with its chased query and no mapping.
 fn store_apart(
     chased: Tableau,
-    images: [Cell; 96],
     count: u8,
     widths: [u8; 8],
     verdict: &mut u8,
@@ -56,7 +55,7 @@ fn store_apart(
     requires widths_value { good_relations count widths ≡ true }
     requires chased_value { good_tableau (take count widths) chased ≡ true }
     ensures { ComparisonGiven (verdict_fits (length mapping.old) (length part.old)
-        (0, (query_for 24 (take count widths)).put (as_query chased))) images verdict.old mapping.old part.old size.old (returned (reply_of result)) verdict.new mapping.new part.new
+        (0, (query_for 24 (take count widths)).put (as_query chased))) (replicate 96 no_cell) verdict.old mapping.old part.old size.old (returned (reply_of result)) verdict.new mapping.new part.new
         size.new }
 {
     if mapping.len() < 192 {
@@ -67,7 +66,7 @@ fn store_apart(
         return Err(Refusal::BufferTooShort);
     }
     put_query(part, 0, chased, count, widths);
-    put_mapping(images, mapping);
+    put_mapping([query::NO_CELL; 96], mapping);
     *verdict = comparison::NOT_CONTAINED;
     *size = n;
     Ok(())
@@ -87,7 +86,7 @@ fn refusal_for(refusal: Refusal, words: usize) -> Refusal
 
 // Stores a comparison, unless it is refused: the verdict, the mapping, and the chased query.
 pub fn store_comparison(
-    compared: Comparison,
+    compared: Result<Verdict, Refusal>,
     count: u8,
     widths: [u8; 8],
     verdict: &mut u8,
@@ -98,17 +97,14 @@ pub fn store_comparison(
     requires widths_value { good_relations count widths ≡ true }
     requires sound_comparison { SoundComparison (take count widths) compared }
     ensures { ComparisonGiven (comparison_fits (length mapping.old) (length part.old) (take count widths) compared)
-        compared.images verdict.old mapping.old part.old size.old (returned (reply_of result)) verdict.new mapping.new
+        (images_told compared) verdict.old mapping.old part.old size.old (returned (reply_of result)) verdict.new mapping.new
         part.new size.new }
 {
-    let found = compared.verdict;
-    let images = compared.images;
-    match found {
-        Verdict::Apart => {
-            let chased = compared.query;
-            store_apart(chased, images, count, widths, verdict, mapping, part, size)
+    match compared {
+        Ok(Verdict::Apart(chased)) => {
+            store_apart(chased, count, widths, verdict, mapping, part, size)
         }
-        Verdict::Mapped => store_contained(
+        Ok(Verdict::Mapped(images)) => store_contained(
             comparison::CONTAINED_BY_MAPPING,
             images,
             verdict,
@@ -116,15 +112,15 @@ pub fn store_comparison(
             part,
             size,
         ),
-        Verdict::Never => store_contained(
+        Ok(Verdict::Never) => store_contained(
             comparison::CONTAINED_AS_NEVER,
-            images,
+            [query::NO_CELL; 96],
             verdict,
             mapping,
             part,
             size,
         ),
-        Verdict::Refused(refusal) => Err(refusal_for(refusal, mapping.len())),
+        Err(refusal) => Err(refusal_for(refusal, mapping.len())),
     }
 }
 
@@ -142,15 +138,10 @@ pub fn check_words(
     ensures verdict_after { verdict.new ≡ leaves (reply (pair_refusal given p q) (words_map given p q words.now)) bit verdict.old }
 {
     let read = read_mapping(words);
-    let images = read.images;
-    let checked = comparison::check_mapping(given, p, q, images);
-    match checked {
-        Ok(maps) => {
-            *verdict = u8::from(maps && read.found);
-            Ok(())
-        }
-        Err(refusal) => Err(refusal),
-    }
+    let images = read.unwrap_or([query::NO_CELL; 96]);
+    let maps = comparison::check_mapping(given, p, q, images)?;
+    *verdict = u8::from(maps && read.is_some());
+    Ok(())
 }
 
 // ---- the calls

@@ -13,8 +13,8 @@ ghost use Rattle.folding.specs.internal.Kept.{Readable, IsKept};
 
 use candidates::table::{domains, repeats, table};
 use consistency::all_links;
-use mapping::cells::{codes, flat, tableau_codes, tableau_flat};
-use query::Query;
+use mapping::cells::{codes, flat};
+use query::{Cell, Query};
 use search::solve_linked;
 
 // The candidates of each row that are left. The head keeps its own.
@@ -115,11 +115,12 @@ pub fn kept(q: Query) -> u32
 {
     let size = q.size as usize;
     let target = tableaux::from_query(q);
-    let from = codes(flat(q));
-    let to = tableau_codes(tableau_flat(target));
-    let named = q.relations;
+    let line: [Cell; 104] = flat(&q.cells, &q.head);
+    let cells: [Cell; 200] = flat(&target.cells, &target.head);
+    let from = codes(&line);
+    let to = codes(&cells);
     let offered = target.relations;
-    let domain = domains(&from, &to, named, offered, size, size);
+    let domain = domains(&from, &to, q.relations, offered, size, size);
     let pairs = table(&from, &to, size, size);
     let links = all_links(&domain, &pairs, size + 1);
     let mut left = distinct(&to, offered, size);

@@ -10,7 +10,10 @@ use native.Mathlib.Omega.{arith}
 use borrow.Author.Count.{below_more}
 use lib.ListN.{get_or, length, set, replicate, get_or-replicate}
 use lib.Seq.{get_or-set_same, get_or-set_other}
-use Rattle.query.specs.declared.Entry.TheVariants.{Variable}
+use Rattle.theory.specs.Query.{Entry}
+use Rattle.query.specs.declared.Entry as stored
+use Rattle.query.specs.declared.Entry.TheVariants.{Constant, Variable}
+use Rattle.query.specs.View.{entry_of}
 use Rattle.query.specs.declared.Cell.{Cell}
 use Rattle.query.specs.internal.Code.{decoded}
 use Rattle.query.proofs.Codes.{code-variable}
@@ -110,3 +113,15 @@ rows_more source target size choice n row image before out at_row at-image was n
       subst (λ (s : ℕ). get_or out v no_cell ≡ get_or target (s + w.0) no_cell) at-image w.3,
     ))
     (now v h)
+
+-- ---- stored entries and what they stand for
+
+entry-same : (a b : stored.Entry) → entry_of a ≡ entry_of b → a ≡ b
+entry-same (Constant m) (Constant n) e = cc
+entry-same (Constant m) (Variable w) e = absurd (cc)
+entry-same (Variable v) (Constant n) e = absurd (cc)
+entry-same (Variable v) (Variable w) e = cc
+
+-- Where two stored entries differ, so do the entries that they stand for
+pub entries-apart : (a b : stored.Entry) (e : Entry) → entry_of a ≡ e → (a ≡ b → ⊥) → e ≡ entry_of b → ⊥
+entries-apart a b e is apart same = apart (entry-same a b (is ∙ same))

@@ -1,12 +1,14 @@
 -- What finding and checking promise, from what their parts promise: 1. the lines of two good queries, 2. checking, 3. finding.
 -- Assumes nothing.
-use mathlib.Core.Path.{◌≡◌, refl, sym, ◌∙◌, ap, subst}
-use mathlib.Core.Bool.{Bool, true, false, true≢false, false≢true}
+use mathlib.Core.Path.{◌≡◌, sym, ◌∙◌, ap, subst}
+use mathlib.Core.Bool.{Bool, false}
 use mathlib.Core.List.{List}
 use Prim.Native.Nat.{ℕ, ◌+◌, ◌*◌, ◌≤◌, ◌<◌}
 use native.Mathlib.Decide.{dec_lt}
 use native.Mathlib.Omega.{arith}
-use lib.ListN.{get_or, length, get_or-eq_default}
+use lib.ListN.{get_or, length, take, get_or-eq_default}
+use lib.Seq.{get_or-take, length-take-le}
+use Rattle.std.specs.Prelude.{None, Some}
 use Rattle.theory.specs.Query.{Entry, constant, variable}
 use Rattle.theory.specs.Answer.{value_of}
 use Rattle.theory.specs.Containment.{freeze}
@@ -21,7 +23,7 @@ use Rattle.query.proofs.Codes.{code_below}
 use Rattle.consistency.specs.internal.Solution.{Solution}
 use Rattle.lists.specs.internal.Tells.{Tells}
 use Rattle.candidates.specs.internal.Candidates.{IsDomain, IsTable}
-use Rattle.mapping.specs.internal.Mapped.{Storable, StorableTableau, no_mapping, Finds, Checks}
+use Rattle.mapping.specs.internal.Mapped.{Storable, StorableTableau, Finds, Checks}
 use Rattle.mapping.specs.internal.Lines.{cell_at, entry_at, entry_in, Carried, Lands, RestBlank, Assigned}
 use Rattle.lists.proofs.Positions.{tells-false}
 use Rattle.mapping.proofs.Checked.{tells-test}
@@ -88,6 +90,19 @@ module _ (source target : Query) (images : List Cell) (sizes : SizedFor 12 sourc
       )
 
   module _ (few : source.size ≤ 12) (few' : target.size ≤ 12) (from to : List Cell) (line : InLine 12 source from) (line' : InLine 12 target to) where
+    -- The relations of the rows that are in use
+    abbrev pub named : List ℕ
+    named = take source.size source.relations
+
+    abbrev pub offered : List ℕ
+    offered = take target.size target.relations
+
+    named-length : length named ≡ source.size
+    named-length = length-take-le source.size source.relations (omega (arith, sizes.relations))
+
+    offered-length : length offered ≡ target.size
+    offered-length = length-take-le target.size target.relations (omega (arith, sizes'.relations))
+
     same-places : (row image : ℕ) → row + 8 ≤ 104 → image + 8 ≤ 104
         → ((i : ℕ) → i < 8 → value_of constant (images_of images) (entry_at 12 source (row + i)) ≡ entry_at 12 target (image + i)) → Carried from to images row image
     same-places row image h k at i l =
@@ -104,25 +119,35 @@ module _ (source target : Query) (images : List Cell) (sizes : SizedFor 12 sourc
     pub good-head : Good → Carried from to images 96 96
     good-head w = same-places 96 96 (omega arith) (omega arith) w.head
 
-    pub good-rows : Good → (r : ℕ) → r < source.size → Lands from to images source.relations target.relations target.size r
-    good-rows w r h =
+    pub good-rows : Good → (r : ℕ) → r < length named → Lands from to images (get_or named r 0) offered r
+    good-rows w r k =
+        let h : r < source.size = omega (arith, named-length) in
         let x = w.rows r h in
-        let l : x.0 < target.size = x.1 in
-        (x.0, x.1, x.2, same-places (8 * r) (8 * x.0) (omega arith) (omega arith) x.3)
+        let l : x.0 < target.size = x.1 in (
+          x.0,
+          omega (arith, offered-length),
+          get_or-take source.size source.relations r 0 h ∙ x.2 ∙ sym (get_or-take target.size target.relations x.0 0 l),
+          same-places (8 * r) (8 * x.0) (omega arith) (omega arith) x.3,
+        )
 
     pub good-rest : Good → RestBlank from images
     good-rest w v h out = w.elsewhere v (λ k l is. out (k, l, line-entry 12 source from line k l ∙ is))
 
     -- and conversely
     pub parts-good : length images ≡ 96 → 0 < source.size → Carried from to images 96 96
-        → ((r : ℕ) → r < source.size → Lands from to images source.relations target.relations target.size r) → RestBlank from images → Good
+        → ((r : ℕ) → r < length named → Lands from to images (get_or named r 0) offered r) → RestBlank from images → Good
     parts-good long some head rows rest =
         record {
           some-row = some;
           rows = λ r h.
-              let x = rows r h in
-              let l : x.0 < target.size = x.1 in
-              (x.0, x.1, x.2, carried-places (8 * r) (8 * x.0) (omega arith) (omega arith) x.3);
+              let x = rows r (omega (arith, named-length)) in
+              let k : x.0 < length offered = x.1 in
+              let l : x.0 < target.size = omega (arith, offered-length) in (
+                x.0,
+                l,
+                sym (get_or-take source.size source.relations r 0 h) ∙ x.2 ∙ get_or-take target.size target.relations x.0 0 l,
+                carried-places (8 * r) (8 * x.0) (omega arith) (omega arith) x.3,
+              );
           head = carried-places 96 96 (omega arith) (omega arith) head;
           elsewhere = λ v none. blank v none (dec_lt v 96);
         }
@@ -139,15 +164,11 @@ module _ (source : Query) (target : Tableau) (sizes : SizedFor 12 source) (sizes
   WideTo f = Wide 192 (entry_at 12 source) (entry_at 24 (as_query target)) source.relations target.relations source.size target.size f
 
   -- There is none where no images are a mapping by positions
-  pub none_found : ((f : ℕ → Entry) → WideTo f → ⊥) → Finds source target no_mapping
-  none_found out schema narrow good good' same =
-      record {
-        mapping = λ e. absurd (false≢true e);
-        none = λ e m. out m.0 (mapping-wide 24 schema narrow source (as_query target) good good' sizes sizes' m.0 m.1);
-        blank = λ e. refl;
-      }
+  pub none_found : ((f : ℕ → Entry) → WideTo f → ⊥) → Finds source target None
+  none_found out schema narrow good good' same m =
+      out m.0 (mapping-wide 24 schema narrow source (as_query target) good good' sizes sizes' m.0 m.1)
 
-  pub none-size : source.size ≡ 0 → Finds source target no_mapping
+  pub none-size : source.size ≡ 0 → Finds source target None
   none-size none = none_found (λ f w. let h : 0 < source.size = w.some-row in omega arith)
 
   module _ (storable : Storable source) (storable' : StorableTableau target) (cells : List Cell) (from to domain table : List ℕ)
@@ -155,7 +176,7 @@ module _ (source : Query) (target : Tableau) (sizes : SizedFor 12 source) (sizes
       (is-domain : IsDomain from to source.relations target.relations source.size target.size domain)
       (is-table : IsTable from to source.size target.size table) where
     -- There is none where the search has no solution
-    pub none-solution : ((choice : ℕ → ℕ) → Solution (source.size + 1) domain table choice → ⊥) → Finds source target no_mapping
+    pub none-solution : ((choice : ℕ → ℕ) → Solution (source.size + 1) domain table choice → ⊥) → Finds source target None
     none-solution out =
         none_found
         (λ f w.
@@ -175,15 +196,10 @@ module _ (source : Query) (target : Tableau) (sizes : SizedFor 12 source) (sizes
 
     -- and its images are a mapping
     pub found-solution : (choice : ℕ → ℕ) (images : List Cell) → 0 < source.size → Solution (source.size + 1) domain table choice → length images ≡ 96
-        → Assigned from cells source.size choice (source.size + 1) images → Finds source target (record { found = true; images = images })
+        → Assigned from cells source.size choice (source.size + 1) images → Finds source target (Some images)
     found-solution choice images some solution long assigned schema narrow good good' same =
-        record {
-          mapping = λ e.
-              wide-mapping 24 schema narrow source (as_query target) good good' sizes sizes' (images_of images) same
-              (solution-wide (entry_at 12 source) (entry_at 24 (as_query target)) from to source.relations target.relations source.size target.size
-              (storable-size source storable) (tableau-size target storable') from_is to_is (all-within 12 storable.0 source storable.1 sizes)
-              (all-within 24 storable'.0 (as_query target) storable'.1 sizes') domain table is-domain is-table choice solution cells images
-              (line-entry 24 (as_query target) cells line) long assigned some);
-          none = λ e. absurd (true≢false e);
-          blank = λ e. absurd (true≢false e);
-        }
+        wide-mapping 24 schema narrow source (as_query target) good good' sizes sizes' (images_of images) same
+        (solution-wide (entry_at 12 source) (entry_at 24 (as_query target)) from to source.relations target.relations source.size target.size
+        (storable-size source storable) (tableau-size target storable') from_is to_is (all-within 12 storable.0 source storable.1 sizes)
+        (all-within 24 storable'.0 (as_query target) storable'.1 sizes') domain table is-domain is-table choice solution cells images
+        (line-entry 24 (as_query target) cells line) long assigned some)

@@ -5,58 +5,32 @@ mod assign; // assign.rt: the images of the variables, from the images of the ro
 mod carry; // carry.rt: whether given images carry entries, rows and a head
 pub mod cells; // cells.rt: a query or a tableau in one line of cells, and their codes
 
-ghost use Rattle.std.specs.Prelude.{◌≡◌};
-ghost use Rattle.mapping.specs.internal.Mapped.{no_mapping, Storable, StorableTableau, Finds, Checks};
+ghost use Rattle.mapping.specs.internal.Mapped.{Storable, StorableTableau, Finds, Checks};
 
 use crate::assign::assign;
 use crate::carry::{all_land, carries, rest_blank};
-use crate::cells::{codes, flat, tableau_codes, tableau_flat};
+use crate::cells::{codes, flat};
 use candidates::table::{domains, table};
 use query::{Cell, Query, Tableau};
 
-// A mapping that was looked for: whether there is one, and the image of each variable. Where there is none the images hold constant 0.
-#[derive(Clone, Copy)]
-pub struct Mapped {
-    pub found: bool,
-    pub images: [Cell; 96],
-}
-
-// No mapping.
-pub fn no_mapping() -> Mapped
-    ensures { result ≡ no_mapping }
-{
-    let images = [query::NO_CELL; 96];
-    Mapped {
-        found: false,
-        images: images,
-    }
-}
-
-// A mapping from a query to a tableau of the same arity, if there is one. Which one is free.
-pub fn find(source: Query, target: Tableau) -> Mapped
+// The image of each variable under a mapping from a query to a tableau of the same arity, if there is one. Which one is free.
+pub fn find(source: Query, target: Tableau) -> Option<[Cell; 96]>
     requires { Storable source × StorableTableau target }
     ensures { Finds source target result }
 {
     let size = source.size as usize;
     let count = target.size as usize;
     if size == 0 {
-        return no_mapping();
+        return None;
     }
-    let cells = tableau_flat(target);
-    let from = codes(flat(source));
-    let to = tableau_codes(cells);
-    let named = source.relations;
-    let offered = target.relations;
-    let domain = domains(&from, &to, named, offered, size, count);
+    let line: [Cell; 104] = flat(&source.cells, &source.head);
+    let cells: [Cell; 200] = flat(&target.cells, &target.head);
+    let from = codes(&line);
+    let to = codes(&cells);
+    let domain = domains(&from, &to, source.relations, target.relations, size, count);
     let pairs = table(&from, &to, size, count);
-    let Some(chosen) = search::solve(&domain, &pairs, size + 1) else {
-        return no_mapping();
-    };
-    let images = assign(from, cells, size, chosen);
-    Mapped {
-        found: true,
-        images: images,
-    }
+    let chosen = search::solve(&domain, &pairs, size + 1)?;
+    Some(assign(from, cells, size, chosen))
 }
 
 // Whether the images are a mapping from one query to another, as they stand. There is none from or to a query without rows.
@@ -66,21 +40,18 @@ pub fn check(source: Query, target: Query, images: [Cell; 96]) -> bool
 {
     let size = source.size as usize;
     let count = target.size as usize;
-    if source.arity != target.arity {
+    if source.arity != target.arity || size == 0 {
         return false;
     }
-    if size == 0 {
-        return false;
-    }
-    let from = flat(source);
-    let to = flat(target);
-    let named = source.relations;
-    let offered = target.relations;
-    if !carries(from, to, images, 96, 96) {
-        return false;
-    }
-    if !all_land(from, to, images, named, offered, size, count) {
-        return false;
-    }
-    rest_blank(from, images)
+    let from = flat(&source.cells, &source.head);
+    let to = flat(&target.cells, &target.head);
+    carries(&from, &to, &images, 96, 96)
+        && all_land(
+            &from,
+            &to,
+            &images,
+            &source.relations[..size],
+            &target.relations[..count],
+        )
+        && rest_blank(&from, &images)
 }

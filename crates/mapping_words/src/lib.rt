@@ -6,7 +6,6 @@ ghost use Rattle.lists.specs.Over.{over};
 ghost use Rattle.mapping_words.specs.Images.{entry_words, mapping_words, get_image, images_in};
 ghost use Rattle.mapping_words.specs.internal.Steps.{image_read, mapping_read};
 
-use mapping::{Mapped, no_mapping};
 use query::{Cell, Entry};
 
 // Writes an entry's tag and number.
@@ -31,10 +30,8 @@ pub fn put_mapping(images: [Cell; 96], words: &mut [u32])
     requires { 192 ≤ length words.old }
     ensures { words.new ≡ over words.old 0 (mapping_words images) }
 {
-    for i in 0..96 {
-        let cell = images[i];
-        let entry = cell.entry;
-        put_image(words, 2 * i, entry);
+    for (i, cell) in images.iter().enumerate() {
+        put_image(words, 2 * i, cell.entry);
     }
 }
 
@@ -43,36 +40,24 @@ fn read_image(words: &[u32], at: usize) -> Option<Entry>
     requires { at + 2 ≤ length words.now }
     ensures { result ≡ image_read (get_image (drop at words.now)) }
 {
-    let tag = words[at];
     let n = words[at + 1];
-    if tag == 0 {
-        return Some(Entry::Constant(n));
+    match words[at] {
+        0 => Some(Entry::Constant(n)),
+        1 => Some(Entry::Variable(u8::try_from(n).ok()?)),
+        _ => None,
     }
-    if tag != 1 {
-        return None;
-    }
-    if 255 < n {
-        return None;
-    }
-    Some(Entry::Variable(n as u8))
 }
 
-// The mapping that words stand for.
-pub fn read_mapping(words: &[u32]) -> Mapped
+// The images that words stand for, if they stand for any.
+pub fn read_mapping(words: &[u32]) -> Option<[Cell; 96]>
     ensures { result ≡ mapping_read (images_in words.now) }
 {
     if words.len() != 192 {
-        return no_mapping();
+        return None;
     }
     let mut images = [query::NO_CELL; 96];
-    for i in 0..96 {
-        let Some(e) = read_image(words, 2 * i) else {
-            return no_mapping();
-        };
-        images[i] = Cell { entry: e };
+    for (i, image) in images.iter_mut().enumerate() {
+        image.entry = read_image(words, 2 * i)?;
     }
-    Mapped {
-        found: true,
-        images: images,
-    }
+    Some(images)
 }

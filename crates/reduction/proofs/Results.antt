@@ -1,22 +1,23 @@
 -- What a reduction gives, from what the chase, the loss of rows and the search for a mapping promise:
 --   1. the shortened query, 2. the record with it, 3. the refusals in their order.
 -- The theorems are the theory's `Reduction`. Assumes nothing.
-use Rattle.std.proofs.Common.{◌≡◌, ℕ, ◌*◌, ◌<◌, ◌≤◌, Bool, true, false, ltb, List, [], ◌∷◌, length, get_or, replicate, sym, refl, ap, ◌∙◌, subst, subst₂, arith, le-ltb, lt-ltb, le-leb}
+use Rattle.std.proofs.Common.{◌≡◌, ℕ, ◌*◌, ◌<◌, ◌≤◌, Bool, true, false, ltb, List, [], ◌∷◌, map, length, take, get_or, replicate, sym, refl, ap, ◌∙◌, subst, subst₂, arith, le-ltb, lt-ltb}
 use mathlib.Core.Option.{none, some}
 use Rattle.query.specs.Types.{Query}
 use Rattle.query.specs.declared.Dependency.{Dependency}
+use Rattle.query.specs.declared.Cell.{Cell}
 use Rattle.query.specs.declared.Place.{Place}
 use Rattle.record.specs.declared.Record.{Record}
-use Rattle.std.specs.Prelude.{Ok, Err}
-use Rattle.query.specs.View.{query_of, as_query, held_of, images_of}
+use Rattle.std.specs.Prelude.{Ok}
+use Rattle.query.specs.View.{query_of, as_query, dependency_of, images_of}
 use Rattle.record.specs.View.{schema_of, dependencies_of}
 use Rattle.lists.specs.Tests.{every, between}
-use Rattle.query.specs.Rule.{good_dependencies, good_query, head_safe, no_cell, no_place, place_with}
+use Rattle.query.specs.Rule.{good_dependency, blank_dependency, good_query, head_safe, no_cell, no_place, place_with}
 use Rattle.record.specs.Rule.{good_record}
 use Rattle.refusals.specs.Refusals.{first_holding, refused, gives}
 use Rattle.record.specs.Calls.{unknown_place, vacant, is_filled, with_place, stored_at}
 use Rattle.record.specs.internal.Lookup.{place_at, filled_place, vacant_place}
-use Rattle.lists.proofs.Tests.{and_both}
+use Rattle.lists.proofs.Tests.{used-good}
 use Rattle.record.proofs.Good.{good-record}
 use Rattle.record.proofs.Stored.{place-good, filled-parts}
 use Rattle.query.proofs.Good.{good-query}
@@ -40,7 +41,7 @@ use Rattle.theory.proofs.Carry.{mapping-target}
 use Rattle.theory.proofs.Chase.{chase-count-le}
 use Rattle.theory.proofs.Lists.{subset-of}
 use Rattle.minimization.proofs.Reduction.{reduction-answers, reduction-minimal, reduction-mapping, reduction-wellformed}
-use Rattle.mapping.specs.declared.Mapped.{Mapped}
+use Rattle.std.specs.Prelude.{Option as Maybe, Some, None, unwrap_or}
 use Rattle.reduction.specs.declared.Shortened.{Shortened}
 use Rattle.reduction.specs.declared.Reduced.{Reduced}
 use Rattle.mapping.specs.internal.Mapped.{IsMapped}
@@ -51,8 +52,8 @@ use Rattle.reduction.specs.internal.Steps.{Shortenable, IsShortened, Reducible}
 -- ---- 1. the shortened query
 
 -- The chase of the tableau of a query, as a stored query again
-module _ (schema : List ℕ) (widths : every (between 1 8) schema ≡ true) (dependencies : List Dependency) (held : ℕ) (q : Query) (sized : SizedFor 12 q)
-    (good : good_query schema q ≡ true) (chased : Chased) (is : IsChased schema dependencies held (tableau_of q) chased)
+module _ (schema : List ℕ) (widths : every (between 1 8) schema ≡ true) (dependencies : List Dependency) (q : Query) (sized : SizedFor 12 q)
+    (good : good_query schema q ≡ true) (chased : Chased) (is : IsChased schema dependencies (tableau_of q) chased)
     (room : SizedFor 24 (as_query chased.query)) where
   same_source : query_of schema (as_query (tableau_of q)) ≡ query_of schema q
   same_source = tableau-query schema q sized good (width-le schema widths)
@@ -61,13 +62,13 @@ module _ (schema : List ℕ) (widths : every (between 1 8) schema ≡ true) (dep
   fits-12 = omega (arith, is.no-more-rows, (good-query 12 schema q good).size)
 
   -- It is the chased query
-  pub chased-query : query_of schema (stored_of chased.query) ≡ (chase (held_of dependencies held) (query_of schema q)).query
+  pub chased-query : query_of schema (stored_of chased.query) ≡ (chase (map dependency_of dependencies) (query_of schema q)).query
   chased-query =
       stored-query schema chased.query room fits-12 (width-le schema widths) ∙ is.query-is
-      ∙ ap (λ (x : theory.Query). (chase (held_of dependencies held) x).query) same_source
+      ∙ ap (λ (x : theory.Query). (chase (map dependency_of dependencies) x).query) same_source
 
-  pub chased-counted : chased.count ≡ (chase (held_of dependencies held) (query_of schema q)).count
-  chased-counted = is.count-is ∙ ap (λ (x : theory.Query). (chase (held_of dependencies held) x).count) same_source
+  pub chased-counted : chased.count ≡ (chase (map dependency_of dependencies) (query_of schema q)).count
+  chased-counted = is.count-is ∙ ap (λ (x : theory.Query). (chase (map dependency_of dependencies) x).count) same_source
 
   pub chased-good : good_query schema (stored_of chased.query) ≡ true
   chased-good = stored-good schema chased.query room fits-12 is.good
@@ -86,27 +87,25 @@ result-of {schema} ds q {query} {result} is p =
       core = p.core;
     }
 
+-- The images of a mapping that was looked for: constant 0 of each variable where there is none
+abbrev pub images_found : Maybe (List Cell) → List Cell
+images_found mapped = unwrap_or mapped (replicate 96 no_cell)
+
 -- A search that must find a mapping finds it
-found-mapping : {S T : theory.Query} {r : Mapped} → IsMapped S T r → Mapping S T → IsMapping S T (images_of r.images)
-found-mapping {S} {T} {r} is m = go r.found refl
-  where
-    go : (b : Bool) → r.found ≡ b → IsMapping S T (images_of r.images)
-    go true e = is.mapping e
-    go false e = absurd (is.none e m)
+found-mapping : {S T : theory.Query} (mapped : Maybe (List Cell)) → IsMapped S T mapped → Mapping S T → IsMapping S T (images_of (images_found mapped))
+found-mapping (Some images) is m = is
+found-mapping None is m = absurd (is m)
 
 -- One that can find none leaves blanks
-found_none : {S T : theory.Query} {r : Mapped} → IsMapped S T r → T.rows ≡ [] → r.images ≡ replicate 96 no_cell
-found_none {S} {T} {r} is empty = go r.found refl
-  where
-    go : (b : Bool) → r.found ≡ b → r.images ≡ replicate 96 no_cell
-    go true e = absurd (mapping-target S T (images_of r.images, is.mapping e) empty)
-    go false e = is.blank e
+found_none : (S T : theory.Query) (mapped : Maybe (List Cell)) → IsMapped S T mapped → T.rows ≡ [] → images_found mapped ≡ replicate 96 no_cell
+found_none S T (Some images) is empty = absurd (mapping-target S T (images_of images, is) empty)
+found_none S T None is empty = refl
 
-pub shortened : (schema : List ℕ) (ds : List database.Dependency) (q query result : Query) (count : ℕ) (mapped : Mapped)
+pub shortened : (schema : List ℕ) (ds : List database.Dependency) (q query result : Query) (count : ℕ) (mapped : Maybe (List Cell))
     → every (between 1 8) schema ≡ true → 8 * q.size ≤ length q.cells → good_query schema q ≡ true → head_safe schema q ≡ true
     → query_of schema query ≡ (chase ds (query_of schema q)).query → count ≡ (chase ds (query_of schema q)).count → IsCoreOf schema query result
     → IsMapped (query_of schema q) (query_of schema result) mapped
-    → IsShortened schema ds q (record { query = result; count = count; images = mapped.images })
+    → IsShortened schema ds q (record { query = result; count = count; images = images_found mapped })
 unfolding head_safe
 shortened schema ds q query result count mapped widths long good safe is counted p m =
     let S = query_of schema q in
@@ -118,13 +117,13 @@ shortened schema ds q query result count mapped widths long good safe is counted
       safe = subset-of (variables_of T.head) (variables_of (row_entries T.rows)) (reduction-wellformed schema ds S T well reduced).head-safe;
       reduces = record {
         result = reduced;
-        mapping = λ some-rows. found-mapping m (reduction-mapping ds S T reduced some-rows);
+        mapping = λ some-rows. found-mapping mapped m (reduction-mapping ds S T reduced some-rows);
         answers = reduction-answers ds S T reduced;
         minimal = reduction-minimal schema ds S T well.rows_fit reduced;
         counted = counted;
         count-le = rw counted (chase-count-le ds S);
       };
-      no-mapping = found_none m;
+      no-mapping = found_none S T mapped m;
     }
 
 -- ---- 2. the record with it
@@ -136,14 +135,13 @@ module _ (r : Record) (source target : ℕ) (able : Reducible r source target) (
       (place-good r able.good source no_place (omega (arith, able.source-low))) able.source-filled
 
   -- The query and the dependencies of the record can be shortened
-  pub able-shortenable : (q : Query) → q ≡ stored_at r source → Shortenable q r.dependencies r.held
-  unfolding good_dependencies
+  pub able-shortenable : (q : Query) → q ≡ stored_at r source → Shortenable q (take r.held r.dependencies)
   able-shortenable q is =
       let g = good-record r able.good in
       record {
         schema = schema_of r;
         widths = good-widths r.relations r.widths g.relations;
-        dependencies-good = and_both _ _ (le-leb r.held 32 g.held) g.dependencies;
+        dependencies-good = used-good r.held (good_dependency (schema_of r)) blank_dependency r.dependencies g.dependencies;
         query-good = ap (good_query (schema_of r)) is ∙ source-parts.0;
       }
 

@@ -2,10 +2,10 @@
 // query as it was stored.
 #![tactic(auto)]
 
-ghost use Rattle.std.specs.Prelude.{◌≡◌, ℕ, true, List};
+ghost use Rattle.std.specs.Prelude.{◌≡◌, ℕ, true, List, map};
 ghost use Rattle.lists.specs.Tests.{every, between};
 ghost use Rattle.query.specs.Rule.{good_query, head_safe};
-ghost use Rattle.query.specs.View.{held_of};
+ghost use Rattle.query.specs.View.{dependency_of};
 ghost use Rattle.refusals.specs.Refusal.{number_of};
 ghost use Rattle.reduction.specs.Reduced.{reduced_reply, refused_reduction, IsReduced, ShortFormStored};
 ghost use Rattle.reduction.specs.internal.Steps.{Shortenable, IsShortened, Reducible};
@@ -38,31 +38,28 @@ struct Shortened {
 fn refused(refusal: Refusal, given: Record) -> Reduced
     ensures { reduced_reply result ≡ refused_reduction given (number_of refusal) }
 {
-    let blank = query::NO_CELL;
     Reduced {
         answer: Err(refusal),
         record: given,
         count: 0,
-        images: [blank; 96],
+        images: [query::NO_CELL; 96],
     }
 }
 
 // Shortens a query: chases it, loses rows, and finds a mapping from the query as it was.
-fn shorten(q: Query, dependencies: [Dependency; 32], held: usize) -> Shortened
-    requires { Shortenable q dependencies held }
+fn shorten(q: Query, dependencies: &[Dependency]) -> Shortened
+    requires { Shortenable q dependencies.now }
     ensures { (schema : List ℕ) → every (between 1 8) schema ≡ true → good_query schema q ≡ true → head_safe schema q ≡ true → IsShortened schema
-        (held_of dependencies held) q result }
+        (map dependency_of dependencies.now) q result }
 {
-    let chased = chase::chase(from_query(q), dependencies, held);
-    let tableau = chased.query;
-    let query = to_query(tableau);
+    let chased = chase::chase(from_query(q), dependencies);
+    let query = to_query(chased.query);
     let result = query_core::core_of(query);
     let mapped = mapping::find(q, from_query(result));
-    let images = mapped.images;
     Shortened {
         query: result,
         count: chased.count,
-        images: images,
+        images: mapped.unwrap_or([query::NO_CELL; 96]),
     }
 }
 
@@ -71,10 +68,8 @@ fn store_reduced(given: Record, source: usize, target: usize) -> Reduced
     requires { Reducible given source target }
     ensures { ShortFormStored given source target result }
 {
-    let dependencies = given.dependencies;
-    let held = given.held as usize;
     let long = stored(given, source);
-    let shortened = shorten(long, dependencies, held);
+    let shortened = shorten(long, &given.dependencies[..given.held as usize]);
     let short = shortened.query;
     let images = shortened.images;
     let filled = Place {
@@ -85,11 +80,12 @@ fn store_reduced(given: Record, source: usize, target: usize) -> Reduced
         answer: Ok(()),
         record: with_place(given, target, filled),
         count: shortened.count,
-        images: images,
+        images,
     }
 }
 
 // Reduces the query at `source` into `target`. A place above 7 is refused before a vacant or a filled one.
+// Kept as it is: a lookup answers with the index or a refusal, and `let .. else` takes the index: a refused call hands the record back, as `?` cannot.
 pub fn reduce(given: Record, source: usize, target: usize) -> Reduced
     ensures { IsReduced given source target result }
 {

@@ -1,28 +1,31 @@
 -- `comparison::check_mapping` meets its contract: the refusals are those of two places, the rest is what `mapping::check` tells of the queries stored there.
 -- Assumes nothing.
-use mathlib.Core.Path.{◌≡◌, sym, ap, subst, ◌∙◌}
+use mathlib.Core.Path.{sym, ap, ◌∙◌}
 use Prim.Native.Nat.{ℕ}
-use Rattle.comparison.specs.Comparison.{pair_refusal, CheckedMapping}
+use Rattle.comparison.specs.Comparison.{pair_refusal}
+use Rattle.std.proofs.lemmas.Result.{err_from_is_err_and}
 use Rattle.refusals.specs.Refusal.{number_of, reply_of}
 use Rattle.refusals.proofs.Refusals.{reply-refused}
 use Rattle.comparison.proofs.Answers.{places-low, places-read, checks-refused, check-storable, checks-told}
 use Rattle.comparison.proofs.check_mapping.Goals as goal
 
-pub returns-in_default : goal.returns-in_default
-returns-in_default c =
+pub returns-in_err-first : goal.returns-in_err-first
+returns-in_err-first c =
     let given = c.args.given in
     let p = c.args.p in
     let q = c.args.q in
-    let n = number_of c.unwrap_err.result in
-    checks-refused given p q c.args.images c.unwrap_err.result
-    (reply-refused {A = ℕ × ℕ} (pair_refusal given p q) (p, q) n (sym c.filled_pair-found.ensures ∙ ap reply_of c.unwrap_err.ensures))
+    let n = c.in_err-first.field-0.0 in
+    let left = err_from_is_err_and c.from_residual.result c.from_residual.ensures.1 in
+    rw (left.1, left.2)
+    (checks-refused given p q c.args.images n
+    (reply-refused {A = ℕ × ℕ} (pair_refusal given p q) (p, q) (number_of n) (sym c.filled_pair.ensures ∙ ap reply_of c.in_err-first.was)))
 
 pub stored-requires : goal.stored-requires
 stored-requires c =
     let given = c.args.given in
     let p = c.args.p in
     let q = c.args.q in
-    let is = sym c.filled_pair-found.ensures ∙ ap reply_of c.in-Ok.is in
+    let is = sym c.filled_pair.ensures ∙ ap reply_of c.in_ok-first.was in
     (places-low given p q _ _ is).1
 
 pub stored-requires-2 : goal.stored-requires-2
@@ -30,7 +33,7 @@ stored-requires-2 c =
     let given = c.args.given in
     let p = c.args.p in
     let q = c.args.q in
-    let is = sym c.filled_pair-found.ensures ∙ ap reply_of c.in-Ok.is in
+    let is = sym c.filled_pair.ensures ∙ ap reply_of c.in_ok-first.was in
     (places-low given p q _ _ is).0
 
 pub check-requires : goal.check-requires
@@ -38,7 +41,7 @@ check-requires c =
     let given = c.args.given in
     let p = c.args.p in
     let q = c.args.q in
-    let is = sym c.filled_pair-found.ensures ∙ ap reply_of c.in-Ok.is in
+    let is = sym c.filled_pair.ensures ∙ ap reply_of c.in_ok-first.was in
     let drawn = places-read given p q _ _ is c.stored-2.result c.stored.result c.stored-2.ensures c.stored.ensures in
     check-storable given p q c.args.images _ _ drawn.0 drawn.1 drawn.2
 
@@ -47,6 +50,6 @@ returns c =
     let given = c.args.given in
     let p = c.args.p in
     let q = c.args.q in
-    let is = sym c.filled_pair-found.ensures ∙ ap reply_of c.in-Ok.is in
+    let is = sym c.filled_pair.ensures ∙ ap reply_of c.in_ok-first.was in
     let drawn = places-read given p q _ _ is c.stored-2.result c.stored.result c.stored-2.ensures c.stored.ensures in
     checks-told given p q c.args.images _ _ drawn.0 drawn.1 drawn.2 c.check.result c.check.ensures

@@ -5,7 +5,6 @@ use Rattle.format.specs.File.{read_file}
 use Rattle.record_on_files.proofs.Files.{read-good}
 use Rattle.format.proofs.Results.{outcome-done, outcome-refused}
 use Rattle.comparison_on_files.proofs.Verdicts.{compare-done, compare-refused}
-use Rattle.comparison_on_files.proofs.Shapes.{comparison-shaped}
 use Rattle.comparison_on_files.proofs.compare_in_file.Goals as goal
 
 pub store_comparison-requires : goal.store_comparison-requires
@@ -16,7 +15,7 @@ store_comparison-requires c =
     c.read-outcome.ensures
     (λ i. (c.type_inv.file i).fits)
     c.in-Ok.is in
-    record { widths_value = (good-record r good).relations; sound_comparison = λ apart. (c.compare-compared.ensures.chased apart).1 }
+    record { widths_value = (good-record r good).relations; sound_comparison = λ query apart. (c.compare-compared.ensures.compared.chased query apart).1 }
 
 pub returns-in-Ok : goal.returns-in-Ok
 returns-in-Ok c =
@@ -25,7 +24,7 @@ returns-in-Ok c =
     rw c.number_of.ensures
     (compare-done a.file.now a.p a.q a.verdict.now a.mapping.now a.part.now a.size.now read.result.«record»
     (outcome-done (read_file a.file.now) read.result read.ensures c.in-Ok.is)
-    c.compare-compared.result c.compare-compared.ensures (comparison-shaped c.compare-compared.result _ c.compare-compared.type_inv) _ _ _ _ _
+    c.compare-compared.result c.compare-compared.ensures.compared c.compare-compared.ensures.shape _ _ _ _ _
     c.store_comparison.ensures)
 
 pub returns-in-Err : goal.returns-in-Err

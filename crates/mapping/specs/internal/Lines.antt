@@ -1,5 +1,5 @@
 -- Queries laid out in one line of cells, 104 of a query and 200 of a tableau: what images carry there, and how they are collected. Only functions of this crate cite these.
-use Rattle.std.specs.Prelude.{◌≡◌, cond, List, ◌⊎◌, ℕ, ◌+◌, ◌*◌, ◌-◌, ◌<◌, ltb, get_or}
+use Rattle.std.specs.Prelude.{◌≡◌, cond, List, ◌⊎◌, ℕ, ◌+◌, ◌*◌, ◌-◌, ◌<◌, ltb, get_or, length}
 use Rattle.theory.specs.Query as theory
 use Rattle.theory.specs.Answer.{value_of}
 use Rattle.query.specs.declared.Cell.{Cell}
@@ -8,9 +8,13 @@ use Rattle.query.specs.View.{entry_of, images_of}
 use Rattle.query.specs.Rule.{no_cell}
 use Rattle.candidates.specs.internal.Candidates.{row_start, image_start}
 
+-- Some cells and those of a head in one line
+abbrev pub line_at : ℕ → List Cell → List Cell → ℕ → Cell
+line_at n cells head k = cond (ltb k n) (get_or cells k no_cell) (get_or head (k - n) no_cell)
+
 -- The cells of a query with room for so many rows in one line: 8 of each row, then 8 of the head
 abbrev pub cell_at : ℕ → Query → ℕ → Cell
-cell_at most q k = cond (ltb k (8 * most)) (get_or q.cells k no_cell) (get_or q.head (k - 8 * most) no_cell)
+cell_at most q k = line_at (8 * most) q.cells q.head k
 
 -- The entries of a query in one line
 abbrev pub entry_at : ℕ → Query → ℕ → theory.Entry
@@ -27,10 +31,10 @@ abbrev pub Carried : List Cell → List Cell → List Cell → ℕ → ℕ → T
 Carried source target images row image =
     (i : ℕ) → i < 8 → value_of theory.constant (images_of images) (entry_in source (row + i)) ≡ entry_in target (image + i)
 
--- The images carry row r to a row of the target in the same relation
-abbrev pub Lands : List Cell → List Cell → List Cell → List ℕ → List ℕ → ℕ → ℕ → Type 0
-Lands source target images named offered count r =
-    (d : ℕ) × (d < count) × (get_or named r 0 ≡ get_or offered d 0) × Carried source target images (8 * r) (8 * d)
+-- The images carry row r, of a relation, to one of the target's rows, of the relations `offered`, in the same relation
+abbrev pub Lands : List Cell → List Cell → List Cell → ℕ → List ℕ → ℕ → Type 0
+Lands source target images named offered r =
+    (d : ℕ) × (d < length offered) × (named ≡ get_or offered d 0) × Carried source target images (8 * r) (8 * d)
 
 -- Variable v stands among the cells
 abbrev pub Stands : List Cell → ℕ → Type 0

@@ -1,5 +1,5 @@
 -- Mappings from a stored query (SPECIFICATION, Answers and mappings): what finding one to a tableau and checking one to a stored query promise.
-use Rattle.std.specs.Prelude.{◌≡◌, Bool, true, false, List, ℕ, ◌≤◌, get_or, replicate}
+use Rattle.std.specs.Prelude.{◌≡◌, Bool, true, List, Option, None, Some, ℕ, ◌≤◌, get_or}
 use Rattle.theory.specs.Query as theory
 use Rattle.theory.specs.Answer.{IsMapping, Mapping}
 use Rattle.minimization.specs.Checking.{maps_to}
@@ -7,8 +7,7 @@ use Rattle.query.specs.declared.Cell.{Cell}
 use Rattle.query.specs.Types.{Query}
 use Rattle.query.specs.Types.{Tableau}
 use Rattle.query.specs.View.{entries_of, query_of, as_query, images_of}
-use Rattle.query.specs.Rule.{good_query, good_tableau, no_cell}
-use Rattle.mapping.specs.declared.Mapped.{Mapped}
+use Rattle.query.specs.Rule.{good_query, good_tableau}
 
 -- A query that some schema makes good
 abbrev pub Storable : Query → Type 0
@@ -22,18 +21,13 @@ StorableTableau t = (schema : List ℕ) × (good_tableau schema t ≡ true)
 abbrev pub Narrow : List ℕ → Type 0
 Narrow schema = (i : ℕ) → get_or schema i 0 ≤ 8
 
--- No mapping was found
-abbrev pub no_mapping : Mapped
-no_mapping = record { found = false; images = replicate 96 no_cell }
-
--- What is found: the images are a mapping, or there is no mapping and they hold constant 0
-pub record IsMapped (source target : theory.Query) (r : Mapped) : Type 0 where
-  pub mapping : r.found ≡ true → IsMapping source target (images_of r.images)
-  pub none : r.found ≡ false → Mapping source target → ⊥
-  pub blank : r.found ≡ false → r.images ≡ replicate 96 no_cell
+-- What is found: images that are a mapping, or none where there is no mapping
+abbrev pub IsMapped : theory.Query → theory.Query → Option (List Cell) → Type 0
+IsMapped source target (Some images) = IsMapping source target (images_of images)
+IsMapped source target None = Mapping source target → ⊥
 
 -- The same of the queries that a stored query and a tableau are under every schema that makes both good, where their arities are equal
-abbrev pub Finds : Query → Tableau → Mapped → Type 0
+abbrev pub Finds : Query → Tableau → Option (List Cell) → Type 0
 Finds source target r =
     (schema : List ℕ) → Narrow schema → good_query schema source ≡ true → good_tableau schema target ≡ true → source.arity ≡ target.arity
     → IsMapped (query_of schema source) (query_of schema (as_query target)) r

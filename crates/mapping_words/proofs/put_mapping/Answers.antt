@@ -1,7 +1,5 @@
 -- `put_mapping` writes the words of each image after those of the one before. Assumes nothing.
 use mathlib.Core.Path.{◌≡◌}
-use native.Mathlib.Omega.{arith}
-use Prim.Native.Nat.{◌-◌}
 use lib.ListN.{length}
 use Rattle.mapping_words.proofs.Mappings.{mapped-starts, mapped-room, mapped-turns, mapped-ends}
 use borrow.Author.Rules.{rules}
@@ -10,26 +8,23 @@ use Rattle.mapping_words.proofs.put_mapping.Goals as goal
 pub loop-i-init : goal.loop-i-init
 loop-i-init c =
     let l : length c.args.images ≡ 96 = search rules in
-    (omega arith, mapped-starts c.args.words.now c.args.images l c.requires)
+    mapped-starts c.args.words.now c.args.images l c.requires
 
 pub put_image-requires : goal.put_image-requires
 put_image-requires c =
     let l : length c.args.images ≡ 96 = search rules in
-    mapped-room c.loop-i.invariant.1 l c.loop-i-test.true
+    mapped-room c.loop-i.invariant l c.loop-i-test.true
 
 pub loop-i-preserved : goal.loop-i-preserved
 loop-i-preserved c =
-    let l : length c.args.images ≡ 96 = search rules in (
-      search rules,
-      mapped-turns c.loop-i.invariant.1 l _
-          c.loop-i-test.true c.put_image.ensures,
-    )
+    let l : length c.args.images ≡ 96 = search rules in
+    mapped-turns c.loop-i.invariant l _ c.loop-i-test.true c.put_image.ensures
 
 pub shape_of-words : goal.shape_of-words
 shape_of-words c =
-    c.loop-i.invariant.1.long
+    c.loop-i.invariant.long
 
 pub returns : goal.returns
 returns c =
     let l : length c.args.images ≡ 96 = search rules in
-    mapped-ends c.loop-i.invariant.1 l c.loop-i-test.false
+    mapped-ends c.loop-i.invariant l c.loop-i-test.false

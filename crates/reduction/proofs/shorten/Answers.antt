@@ -1,10 +1,12 @@
 -- `reduction::shorten` meets its contract, by `Results`. Assumes nothing.
-use Rattle.std.proofs.Common.{◌≡◌, ℕ, ◌*◌, ◌≤◌, true, List, length, sym, ap, ◌∙◌, subst, arith, rules}
+use Rattle.std.proofs.Common.{◌≡◌, ℕ, ◌*◌, ◌≤◌, true, List, map, length, sym, ap, ◌∙◌, subst, arith, rules}
 use Rattle.lists.specs.Tests.{every, between}
 use Rattle.lists.proofs.Loops.{mapped-length}
 use Rattle.query.specs.Types.{Query}
 use Rattle.query.specs.Types.{Tableau}
-use Rattle.query.specs.View.{query_of, as_query}
+use Rattle.query.specs.View.{query_of, as_query, dependency_of}
+use Rattle.query.specs.declared.Cell.{Cell}
+use Rattle.reduction.specs.internal.Steps.{IsShortened}
 use Rattle.query.specs.Rule.{good_query, good_tableau}
 use Rattle.query.proofs.Good.{good-query}
 use Rattle.query.proofs.Shape.{SizedFor}
@@ -29,7 +31,7 @@ chase-chased-requires c =
     let good : good_tableau p.schema c.from_query.result ≡ true =
     ap (good_tableau p.schema) c.from_query.ensures ∙ tableau-good p.schema a.q (sized (goal.at.chase-chased-requires c).After-from_query) p.query-good
     in
-    chasable p.schema a.held a.dependencies c.from_query.result p.widths p.dependencies-good good
+    chasable p.schema a.dependencies.now c.from_query.result p.widths p.dependencies-good good
 
 module _ (c : After-to_query-query) where
   stored-sized : SizedFor 12 c.args.q
@@ -41,7 +43,7 @@ module _ (c : After-to_query-query) where
 
   module _ (schema : List ℕ) (widths : every (between 1 8) schema ≡ true) (good : good_query schema c.args.q ≡ true) where
     -- What the chase promises, for the tableau of the query
-    chased : IsChased schema c.args.dependencies c.args.held (tableau_of c.args.q) c.chase-chased.result
+    chased : IsChased schema c.args.dependencies.now (tableau_of c.args.q) c.chase-chased.result
     chased =
         let is = c.from_query.ensures in
         rw is at (c.chase-chased.ensures schema (ap (good_tableau schema) is ∙ tableau-good schema c.args.q stored-sized good) widths)
@@ -51,7 +53,7 @@ module _ (c : After-to_query-query) where
     good-again =
         let a = c.args in
         ap (good_query schema) c.to_query-query.ensures
-        ∙ chased-good schema widths a.dependencies a.held a.q stored-sized good c.chase-chased.result chased roomy
+        ∙ chased-good schema widths a.dependencies.now a.q stored-sized good c.chase-chased.result chased roomy
 
 pub core_of-result-requires : goal.core_of-result-requires
 core_of-result-requires c =
@@ -100,13 +102,19 @@ returns c =
     let same : q.arity ≡ c.from_query-2.result.arity =
     sym (ap (λ (t : Tableau). t.arity) tableau-is ∙ p.same-arity ∙ ap (λ (x : Query). x.arity) query-is ∙ is.same-arity)
     in
-    shortened schema _ q (stored_of c.chase-chased.result.query) c.core_of-result.result c.chase-chased.result.count
+    let told = shortened schema _ q (stored_of c.chase-chased.result.query) c.core_of-result.result c.chase-chased.result.count
     c.find-mapped.result
     widths long good safe
-    (chased-query schema widths a.dependencies a.held q s good c.chase-chased.result is (roomy cored))
-    (chased-counted schema widths a.dependencies a.held q s good c.chase-chased.result is (roomy cored))
+    (chased-query schema widths a.dependencies.now q s good c.chase-chased.result is (roomy cored))
+    (chased-counted schema widths a.dependencies.now q s good c.chase-chased.result is (roomy cored))
     (rw query-is at p)
     (subst (λ (T : theory.Query). IsMapped (query_of schema q) T c.find-mapped.result)
     (ap (λ (t : Tableau). query_of schema (as_query t)) tableau-is
     ∙ tableau-query schema c.core_of-result.result (result-sized at.After-from_query-2) p.good narrow)
     (c.find-mapped.ensures schema narrow good (result-good at.After-from_query-2 schema p.good) same))
+    in
+    subst
+    (λ (images : List Cell).
+    IsShortened schema (map dependency_of a.dependencies.now) q
+    (record { query = c.core_of-result.result; count = c.chase-chased.result.count; images = images }))
+    (sym c.unwrap_or.ensures) told

@@ -1,5 +1,6 @@
 -- `reduction::store_reduced` meets its contract, by `Results`. Assumes nothing.
 use Rattle.std.proofs.Common.{◌≡◌, length, rules}
+use Rattle.record.proofs.Good.{good-record}
 use Rattle.lists.proofs.Loops.{mapped-length}
 use Rattle.reduction.proofs.Results.{able-shortenable, stored-reduced}
 use Rattle.reduction.proofs.store_reduced.Goals as goal
@@ -24,3 +25,6 @@ returns c =
     rw c.with_place.ensures
     (stored-reduced c.args.given c.args.source c.args.target c.requires (eight (goal.at.returns c).Start) _ c.stored-long.ensures
     c.shorten-shortened.result c.shorten-shortened.ensures)
+
+pub shared_ref_as_front-shorten : goal.shared_ref_as_front-shorten
+shared_ref_as_front-shorten c = (good-record c.args.given c.requires.good).held

@@ -5,7 +5,7 @@ use Rattle.query.specs.declared.Dependency.{Dependency}
 use Rattle.record.specs.declared.Record.{Record}
 use Rattle.query.specs.View.{query_of, images_of}
 use Rattle.lists.specs.Tests.{every, between}
-use Rattle.query.specs.Rule.{good_dependencies, good_query, head_safe, no_cell}
+use Rattle.query.specs.Rule.{good_dependency, good_query, head_safe, no_cell}
 use Rattle.record.specs.Rule.{good_record}
 use Rattle.record.specs.Calls.{is_filled}
 use Rattle.theory.specs.Database as database
@@ -13,10 +13,10 @@ use Rattle.reduction.specs.declared.Shortened.{Shortened}
 use Rattle.reduction.specs.Reduced.{ReducesTo}
 
 -- A query and dependencies that are good under some schema, as those of a good record
-pub record Shortenable (q : Query) (dependencies : List Dependency) (held : ℕ) : Type 0 where
+pub record Shortenable (q : Query) (dependencies : List Dependency) : Type 0 where
   pub schema : List ℕ
   pub widths : every (between 1 8) schema ≡ true
-  pub dependencies-good : good_dependencies schema held dependencies ≡ true
+  pub dependencies-good : every (good_dependency schema) dependencies ≡ true
   pub query-good : good_query schema q ≡ true
 
 -- What a query is shortened to, read through a schema that makes it good: a good query with a safe head, and demand 3's facts of it

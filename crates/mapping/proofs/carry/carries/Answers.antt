@@ -1,28 +1,21 @@
--- `carries` tells whether 8 entries are carried. The invariant: those passed are.
+-- `carries` tells whether 8 entries are carried.
 -- Assumes nothing.
-use borrow.Author.Rules.{rules}
-use borrow.Author.Count.{below_none, below_more}
-use mathlib.Core.Path.{sym, ◌∙◌}
-use Rattle.theory.proofs.Entries.{same_entry-eq, same_entry-ne}
-use Rattle.lists.proofs.Positions.{tells-true, tells-false}
+use Rattle.std.proofs.Common.{rules, tests, ◌≡◌, arith}
+use Rattle.std.proofs.lemmas.Iterator.{YieldsList-from_slice, YieldsList-from_zip, cases_from_all}
+use Rattle.theory.specs.Query.{constant}
+use Rattle.theory.specs.Answer.{value_of}
+use Rattle.query.specs.declared.Cell.{Cell}
+use Rattle.query.specs.View.{entry_of, images_of}
+use Rattle.query.specs.Rule.{no_cell}
+use Rattle.candidates.proofs.Chained.{part, all-parts}
+use Rattle.mapping.proofs.Images.{entries-apart}
 use Rattle.mapping.proofs.carry.carries.Goals as goal
 
-pub loop-i-init : goal.loop-i-init
-loop-i-init c = (search rules, below_none _)
-
-pub returns-then-not-same_entry : goal.returns-then-not-same_entry
-returns-then-not-same_entry c =
-    let at6 = c in
-    tells-false
-    (λ p. same_entry-ne _ _ (sym c.same_entry.ensures ∙ c.if-not-same_entry.true)
-    (c.image_of.ensures ∙ p at6.loop-i.i (search rules)))
-
-pub loop-i-preserved : goal.loop-i-preserved
-loop-i-preserved c = (
-  search rules,
-  below_more _ _ c.loop-i.invariant.1
-      (sym c.image_of.ensures ∙ same_entry-eq _ _ (sym c.same_entry.ensures ∙ c.if-not-same_entry.false)),
-)
-
 pub returns : goal.returns
-returns c = tells-true (λ k h. c.loop-i.invariant.1 k (search rules))
+returns c =
+    let a = c.args in
+    let P : Cell × Cell → Type 0 = λ p. value_of constant (images_of a.images.now) (entry_of p.0.entry) ≡ entry_of p.1.entry in
+    all-parts P a.row a.image 8 a.source.now a.target.now no_cell no_cell c.all.result (omega arith) (omega arith)
+    (cases_from_all c.all.new.self _ _ P (λ p. P p → ⊥) c.all.ensures.ran
+    (YieldsList-from_zip (YieldsList-from_slice (part a.row 8 a.source.now) cc) (YieldsList-from_slice (part a.image 8 a.target.now) cc))
+    (λ x q k. search (rules, tests)) (λ x q k. search (rules, tests, entries-apart)))
