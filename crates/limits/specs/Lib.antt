@@ -1,2 +1,3 @@
--- `internal` is this crate's own.
+-- What a schema's fields mean. `internal` is this crate's own.
+pub mod Schema
 pub mod internal

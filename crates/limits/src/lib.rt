@@ -1,4 +1,4 @@
-// The rule of relations, dependencies, queries and places as tests: one function a test, callees first.
+// The rule of relations, dependencies, queries and places as tests: one function a test, callees first; those that need the schema are methods of it.
 // Each answers what its namesake in query/specs/Rule says of the same fields.
 #![tactic(auto)]
 
@@ -10,13 +10,17 @@ ghost use Rattle.limits.specs.internal.Entries.{names_variable, safe_cell};
 ghost use Rattle.limits.specs.internal.Answers.{AnswersAs};
 ghost use Rattle.query.specs.Rule.{blank_cell, blank_dependency, blank_query, good_relations, good_set, good_dependency, good_dependencies, good_cell, good_row, good_rows, good_query, head_safe, good_place};
 ghost use Rattle.query.specs.Rule.{blank_join, good_join, good_joins};
+ghost use Rattle.limits.specs.Schema.{widths_in};
 ghost use Rattle.lists.specs.Tests.{between, every, in_use, is_zero};
 ghost use Rattle.lists.specs.Numbers.{numbers_where};
+
+pub mod schema; // schema.rt: how many relations there are, and how many columns each has
 
 use query::{
     Cell, Dependency, Entry, JoinDependency, NO_CELL, NO_DEPENDENCY, NO_JOIN_DEPENDENCY, Place,
     Query,
 };
+use schema::Schema;
 
 // ---- arrays whose first elements are in use
 
@@ -85,29 +89,6 @@ pub fn relations_good(relations: u8, widths: [u8; 8]) -> bool
         )
 }
 
-// The width of a relation, 0 of an unknown one.
-pub fn width_of(relations: u8, widths: [u8; 8], relation: u8) -> u8
-    requires { good_relations relations widths ≡ true }
-    ensures { result ≡ get_or (take relations widths) relation 0 }
-{
-    if relation < relations {
-        widths[relation as usize]
-    } else {
-        0
-    }
-}
-
-// Whether a relation is known and a set of columns is a nonempty set of its columns.
-#[tactic(auto, using(std::proofs::lemmas::Bool::Decides::nat_tests), unfolding(query::specs::Rule::good_set))]
-pub fn set_good(relations: u8, widths: [u8; 8], relation: u8, left: u8) -> bool
-    requires { good_relations relations widths ≡ true }
-    ensures { result ≡ good_set (take relations widths) relation left }
-{
-    relation < relations
-        && left != 0
-        && u16::from(left) < 1u16 << width_of(relations, widths, relation)
-}
-
 // At most 8 widths, and 0 for each that is not in use.
 pub fn padded_widths(widths: &[u8]) -> [u8; 8]
     requires { length widths.now ≤ 8 }
@@ -118,57 +99,13 @@ pub fn padded_widths(widths: &[u8]) -> [u8; 8]
     padded
 }
 
-// ---- functional dependencies
-
-// Whether a dependency names a known relation, a nonempty set of its columns and one of its columns.
-#[tactic(auto, using(std::proofs::lemmas::Bool::Decides::nat_tests), unfolding(query::specs::Rule::good_dependency))]
-pub fn dependency_good(relations: u8, widths: [u8; 8], d: Dependency) -> bool
-    requires { good_relations relations widths ≡ true }
-    ensures { result ≡ good_dependency (take relations widths) d }
-{
-    set_good(relations, widths, d.relation, d.left)
-        && d.right < width_of(relations, widths, d.relation)
-}
+// ---- dependencies
 
 // Whether a dependency is that of a slot not in use.
 fn dependency_blank(d: &Dependency) -> bool
     ensures { result ≡ blank_dependency d.now }
 {
     *d == NO_DEPENDENCY
-}
-
-// Whether at most 32 dependencies are held, each good, and no slot beyond them is in use.
-pub fn dependencies_good(
-    relations: u8,
-    widths: [u8; 8],
-    held: u8,
-    dependencies: [Dependency; 32],
-) -> bool
-    requires { good_relations relations widths ≡ true }
-    ensures { result ≡ good_dependencies (take relations widths) held dependencies }
-{
-    held <= 32
-        && in_use(
-            &dependencies,
-            held as usize,
-            |d| dependency_good(relations, widths, *d),
-            dependency_blank,
-        )
-}
-
-// ---- join dependencies
-
-// Whether the first n sets are nonempty sets of a relation's columns, and those after them empty.
-fn sets_good(relations: u8, widths: [u8; 8], relation: u8, sets: &[u8], n: usize) -> bool
-    requires { good_relations relations widths ≡ true }
-    ensures { result ≡ in_use n (good_set (take relations widths) relation) is_zero sets.now }
-{
-    in_use(
-        sets,
-        n,
-        |set| set_good(relations, widths, relation, *set),
-        |set| *set == 0,
-    )
 }
 
 // Whether sets of columns together are all columns of a relation of the given width.
@@ -180,18 +117,6 @@ fn sets_cover(sets: [u8; 4], width: u8) -> bool
     u16::from(covered) + 1 == 1u16 << width
 }
 
-// Whether a join dependency names a known relation and 2 to 4 nonempty sets of its columns that together are all of them.
-#[tactic(auto, using(std::proofs::lemmas::Bool::Decides::nat_tests), unfolding(query::specs::Rule::good_join))]
-pub fn join_good(relations: u8, widths: [u8; 8], j: JoinDependency) -> bool
-    requires { good_relations relations widths ≡ true }
-    ensures { result ≡ good_join (take relations widths) j }
-{
-    2 <= j.count
-        && j.count <= 4
-        && sets_good(relations, widths, j.relation, &j.sets, j.count as usize)
-        && sets_cover(j.sets, width_of(relations, widths, j.relation))
-}
-
 // Whether a join dependency is that of a slot not in use.
 fn join_blank(j: JoinDependency) -> bool
     ensures { result ≡ blank_join j }
@@ -199,64 +124,13 @@ fn join_blank(j: JoinDependency) -> bool
     j == NO_JOIN_DEPENDENCY
 }
 
-// Whether at most 4 join dependencies are held, each good, and no slot beyond them is in use.
-pub fn joins_good(relations: u8, widths: [u8; 8], joined: u8, joins: [JoinDependency; 4]) -> bool
-    requires { good_relations relations widths ≡ true }
-    ensures { result ≡ good_joins (take relations widths) joined joins }
-{
-    joined <= 4
-        && in_use(
-            &joins,
-            joined as usize,
-            |j| join_good(relations, widths, *j),
-            |j| join_blank(*j),
-        )
-}
-
 // ---- queries
-
-// Whether a row names a known relation and has good entries, one a column, and no others.
-fn row_good(relations: u8, widths: [u8; 8], relation: u8, cells: &[Cell]) -> bool
-    requires { good_relations relations widths ≡ true }
-    ensures { result ≡ good_row (take relations widths) relation cells.now }
-{
-    relation < relations && cells_good(cells, width_of(relations, widths, relation) as usize)
-}
-
-// Whether each row is good, row r having the 8 cells from 8 * r on.
-// Kept as it is: a chain would zip the relations with chunks_exact, and the library names no list of items for chunks that a proof could go by.
-fn rows_good(relations: u8, widths: [u8; 8], named: &[u8], cells: &[Cell]) -> bool
-    requires { (good_relations relations widths ≡ true) × (8 * length named.now ≤ length cells.now) }
-    ensures { result ≡ good_rows (take relations widths) named.now cells.now }
-{
-    for (row, relation) in named.iter().enumerate() {
-        if !row_good(relations, widths, *relation, &cells[8 * row..8 * row + 8]) {
-            return false;
-        }
-    }
-    true
-}
 
 // How many entries of a query's head are in use: none of a query without rows.
 pub fn head_in_use(arity: u8, size: u8) -> usize
     ensures { result ≡ cond (eqb size 0) 0 arity }
 {
     if size == 0 { 0 } else { arity as usize }
-}
-
-// Whether a query keeps the limits and holds nothing where it is not in use: what refusal 5 asks.
-#[tactic(auto, using(std::proofs::lemmas::Bool::Decides::nat_tests), unfolding(query::specs::Rule::good_up_to))]
-pub fn query_good(relations: u8, widths: [u8; 8], q: Query) -> bool
-    requires { good_relations relations widths ≡ true }
-    ensures { result ≡ good_query (take relations widths) q }
-{
-    let rows = q.size as usize;
-    q.arity <= 8
-        && q.size <= 12
-        && cells_good(&q.head, head_in_use(q.arity, q.size))
-        && rows_good(relations, widths, &q.relations[..rows], &q.cells)
-        && all_zero(&q.relations[rows..])
-        && cells_blank(&q.cells[8 * rows..])
 }
 
 // Whether a query is that of a vacant place.
@@ -285,74 +159,171 @@ fn cells_have(cells: &[Cell], v: u8) -> bool
     cells.iter().any(|c| cell_names(c, v))
 }
 
-// Whether a variable stands in one of the first rows.
-// Kept as it is: as with `rows_good`, no list of items is named for a chain over chunks.
-pub fn rows_have(
-    relations: u8,
-    widths: [u8; 8],
-    size: usize,
-    named: [u8; 12],
-    cells: [Cell; 96],
-    v: u8,
-) -> bool
-    requires { (good_relations relations widths ≡ true) × (size ≤ 12) }
-    ensures { result ≡ member v (variables_of (row_entries (rows_of (take relations widths) (take size named) cells))) }
-{
-    for (row, relation) in named[..size].iter().enumerate() {
-        let width = width_of(relations, widths, *relation) as usize;
-        if cells_have(&cells[8 * row..8 * row + width], v) {
-            return true;
+// ---- what a schema tells of a stored value
+
+impl Schema {
+    // The width of a relation, 0 of an unknown one.
+    pub fn width_of(self, relation: u8) -> u8
+        ensures { result ≡ get_or (widths_in self) relation 0 }
+    {
+        if relation < self.relations {
+            self.widths[relation as usize]
+        } else {
+            0
         }
     }
-    false
-}
 
-// Whether an entry of a query's head is a constant or stands in a row.
-fn cell_safe(relations: u8, widths: [u8; 8], q: &Query, c: &Cell) -> bool
-    requires { (good_relations relations widths ≡ true) × (q.now.size ≤ 12) }
-    ensures { result ≡ safe_cell (variables_of (row_entries (rows_of (take relations widths) (take q.now.size q.now.relations) q.now.cells))) c.now }
-{
-    match c.entry {
-        Entry::Constant(_) => true,
-        Entry::Variable(v) => rows_have(
-            relations,
-            widths,
-            q.size as usize,
-            q.relations,
-            q.cells,
-            v,
-        ),
+    // Whether a relation is known and a set of columns is a nonempty set of its columns.
+    #[tactic(auto, using(std::proofs::lemmas::Bool::Decides::nat_tests), unfolding(query::specs::Rule::good_set))]
+    pub fn set_good(self, relation: u8, left: u8) -> bool
+        ensures { result ≡ good_set (widths_in self) relation left }
+    {
+        relation < self.relations && left != 0 && u16::from(left) < 1u16 << self.width_of(relation)
     }
-}
 
-// Whether each head variable stands in a row: what refusal 6 asks of a query that keeps the limits.
-pub fn head_safe(relations: u8, widths: [u8; 8], q: Query) -> bool
-    requires { (good_relations relations widths ≡ true) × (q.arity ≤ 8) × (q.size ≤ 12) }
-    ensures { result ≡ head_safe (take relations widths) q }
-{
-    q.head[..q.arity as usize]
-        .iter()
-        .all(|c| cell_safe(relations, widths, &q, c))
-}
-
-// ---- places
-
-// Whether a filled place holds a good query with a safe head, or a vacant one holds nothing.
-fn place_good(relations: u8, widths: [u8; 8], p: Place) -> bool
-    requires { good_relations relations widths ≡ true }
-    ensures { result ≡ good_place (take relations widths) p }
-{
-    if p.filled {
-        query_good(relations, widths, p.query) && head_safe(relations, widths, p.query)
-    } else {
-        query_blank(p.query)
+    // Whether a dependency names a known relation, a nonempty set of its columns and one of its columns.
+    #[tactic(auto, using(std::proofs::lemmas::Bool::Decides::nat_tests), unfolding(query::specs::Rule::good_dependency))]
+    pub fn dependency_good(self, d: Dependency) -> bool
+        ensures { result ≡ good_dependency (widths_in self) d }
+    {
+        self.set_good(d.relation, d.left) && d.right < self.width_of(d.relation)
     }
-}
 
-// Whether every place is good.
-pub fn places_good(relations: u8, widths: [u8; 8], places: [Place; 8]) -> bool
-    requires { good_relations relations widths ≡ true }
-    ensures { result ≡ every (good_place (take relations widths)) places }
-{
-    places.iter().all(|p| place_good(relations, widths, *p))
+    // Whether at most 32 dependencies are held, each good, and no slot beyond them is in use.
+    pub fn dependencies_good(self, held: u8, dependencies: [Dependency; 32]) -> bool
+        ensures { result ≡ good_dependencies (widths_in self) held dependencies }
+    {
+        held <= 32
+            && in_use(
+                &dependencies,
+                held as usize,
+                |d| self.dependency_good(*d),
+                dependency_blank,
+            )
+    }
+
+    // Whether the first n sets are nonempty sets of a relation's columns, and those after them empty.
+    fn sets_good(self, relation: u8, sets: &[u8], n: usize) -> bool
+        ensures { result ≡ in_use n (good_set (widths_in self) relation) is_zero sets.now }
+    {
+        in_use(
+            sets,
+            n,
+            |set| self.set_good(relation, *set),
+            |set| *set == 0,
+        )
+    }
+
+    // Whether a join dependency names a known relation and 2 to 4 nonempty sets of its columns that together are all of them.
+    #[tactic(auto, using(std::proofs::lemmas::Bool::Decides::nat_tests), unfolding(query::specs::Rule::good_join))]
+    pub fn join_good(self, j: JoinDependency) -> bool
+        ensures { result ≡ good_join (widths_in self) j }
+    {
+        2 <= j.count
+            && j.count <= 4
+            && self.sets_good(j.relation, &j.sets, j.count as usize)
+            && sets_cover(j.sets, self.width_of(j.relation))
+    }
+
+    // Whether at most 4 join dependencies are held, each good, and no slot beyond them is in use.
+    pub fn joins_good(self, joined: u8, joins: [JoinDependency; 4]) -> bool
+        ensures { result ≡ good_joins (widths_in self) joined joins }
+    {
+        joined <= 4
+            && in_use(
+                &joins,
+                joined as usize,
+                |j| self.join_good(*j),
+                |j| join_blank(*j),
+            )
+    }
+
+    // Whether a row names a known relation and has good entries, one a column, and no others.
+    fn row_good(self, relation: u8, cells: &[Cell]) -> bool
+        ensures { result ≡ good_row (widths_in self) relation cells.now }
+    {
+        relation < self.relations && cells_good(cells, self.width_of(relation) as usize)
+    }
+
+    // Whether each row is good, row r having the 8 cells from 8 * r on.
+    // Kept as it is: a chain would zip the relations with chunks_exact, and the library names no list of items for chunks that a proof could go by.
+    fn rows_good(self, named: &[u8], cells: &[Cell]) -> bool
+        requires { 8 * length named.now ≤ length cells.now }
+        ensures { result ≡ good_rows (widths_in self) named.now cells.now }
+    {
+        for (row, relation) in named.iter().enumerate() {
+            if !self.row_good(*relation, &cells[8 * row..8 * row + 8]) {
+                return false;
+            }
+        }
+        true
+    }
+
+    // Whether a query keeps the limits and holds nothing where it is not in use: what refusal 5 asks.
+    #[tactic(auto, using(std::proofs::lemmas::Bool::Decides::nat_tests), unfolding(query::specs::Rule::good_up_to))]
+    pub fn query_good(self, q: Query) -> bool
+        ensures { result ≡ good_query (widths_in self) q }
+    {
+        let rows = q.size as usize;
+        q.arity <= 8
+            && q.size <= 12
+            && cells_good(&q.head, head_in_use(q.arity, q.size))
+            && self.rows_good(&q.relations[..rows], &q.cells)
+            && all_zero(&q.relations[rows..])
+            && cells_blank(&q.cells[8 * rows..])
+    }
+
+    // Whether a variable stands in one of the rows of the given relations, row r having the 8 cells from 8 * r on.
+    // Kept as it is: as with `rows_good`, no list of items is named for a chain over chunks.
+    pub fn rows_have(self, named: &[u8], cells: &[Cell], v: u8) -> bool
+        requires { 8 * length named.now ≤ length cells.now }
+        ensures { result ≡ member v (variables_of (row_entries (rows_of (widths_in self) named.now cells.now))) }
+    {
+        for (row, relation) in named.iter().enumerate() {
+            let width = self.width_of(*relation) as usize;
+            if cells_have(&cells[8 * row..8 * row + width], v) {
+                return true;
+            }
+        }
+        false
+    }
+
+    // Whether an entry of a query's head is a constant or stands in a row.
+    fn cell_safe(self, q: &Query, c: &Cell) -> bool
+        requires { q.now.size ≤ 12 }
+        ensures { result ≡ safe_cell (variables_of (row_entries (rows_of (widths_in self) (take q.now.size q.now.relations) q.now.cells))) c.now }
+    {
+        match c.entry {
+            Entry::Constant(_) => true,
+            Entry::Variable(v) => self.rows_have(&q.relations[..q.size as usize], &q.cells, v),
+        }
+    }
+
+    // Whether each head variable stands in a row: what refusal 6 asks of a query that keeps the limits.
+    pub fn head_safe(self, q: Query) -> bool
+        requires { (q.arity ≤ 8) × (q.size ≤ 12) }
+        ensures { result ≡ head_safe (widths_in self) q }
+    {
+        q.head[..q.arity as usize]
+            .iter()
+            .all(|c| self.cell_safe(&q, c))
+    }
+
+    // Whether a filled place holds a good query with a safe head, or a vacant one holds nothing.
+    fn place_good(self, p: Place) -> bool
+        ensures { result ≡ good_place (widths_in self) p }
+    {
+        if p.filled {
+            self.query_good(p.query) && self.head_safe(p.query)
+        } else {
+            query_blank(p.query)
+        }
+    }
+
+    // Whether every place is good.
+    pub fn places_good(self, places: [Place; 8]) -> bool
+        ensures { result ≡ every (good_place (widths_in self)) places }
+    {
+        places.iter().all(|p| self.place_good(*p))
+    }
 }

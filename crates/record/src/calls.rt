@@ -72,6 +72,7 @@ pub fn with_place(given: Record, place: usize, p: Place) -> Record
 }
 
 // The record with one functional dependency more, after those held.
+// Kept as it is: it differs from `with_join` in the two fields that it changes, and one function for both would have to be given both fields.
 fn with_dependency(given: Record, d: Dependency) -> Record
     requires { given.held < 32 }
     ensures { result ≡ with_dependency given d }
@@ -125,11 +126,10 @@ impl Record {
     }
 
     // Put a query into a vacant place.
+    // Kept as it is: a lookup answers with the index or a refusal, and `let .. else` takes the index: a refused call hands the record back, as `?` cannot.
     pub fn put(self, place: usize, q: Query) -> Outcome
         ensures { outcome_reply result ≡ put_query self place q }
     {
-        let relations = self.relations;
-        let widths = self.widths;
         if !self.is_good() {
             return refused(Refusal::BadRecord, self);
         }
@@ -137,10 +137,11 @@ impl Record {
         let Ok(_) = found else {
             return refused(found.unwrap_err(), self);
         };
-        if !limits::query_good(relations, widths, q) {
+        let schema = self.schema();
+        if !schema.query_good(q) {
             return refused(Refusal::BadQuery, self);
         }
-        if !limits::head_safe(relations, widths, q) {
+        if !schema.head_safe(q) {
             return refused(Refusal::UnsafeHead, self);
         }
         let found = self.vacant_place(place);
@@ -155,16 +156,15 @@ impl Record {
     }
 
     // Add a functional dependency after those held.
+    // Kept as it is: `add_join` has another test, other refusals, another room and other fields, so one function for both would be given all that it does.
     pub fn add_dependency(self, d: Dependency) -> Outcome
         ensures { outcome_reply result ≡ add_dependency self d }
     {
-        let relations = self.relations;
-        let widths = self.widths;
         let held = self.held;
         if !self.is_good() {
             return refused(Refusal::BadRecord, self);
         }
-        if !limits::dependency_good(relations, widths, d) {
+        if !self.schema().dependency_good(d) {
             return refused(Refusal::BadDependency, self);
         }
         if held == 32 {
@@ -177,13 +177,11 @@ impl Record {
     pub fn add_join(self, j: JoinDependency) -> Outcome
         ensures { outcome_reply result ≡ add_join self j }
     {
-        let relations = self.relations;
-        let widths = self.widths;
         let joined = self.joined;
         if !self.is_good() {
             return refused(Refusal::BadRecord, self);
         }
-        if !limits::join_good(relations, widths, j) {
+        if !self.schema().join_good(j) {
             return refused(Refusal::BadJoin, self);
         }
         if joined == 4 {

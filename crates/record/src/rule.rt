@@ -1,30 +1,36 @@
-// Whether a record is as it should be, part by part.
-ghost use Rattle.std.specs.Prelude.{◌≡◌};
+// Whether a record is as it should be, part by part, and its schema then.
+ghost use Rattle.std.specs.Prelude.{◌≡◌, true};
+ghost use Rattle.limits.specs.Schema.{widths_in};
 ghost use Rattle.record.specs.Rule.{good_record};
+ghost use Rattle.record.specs.View.{schema_of};
 
 use crate::Record;
+use limits::schema::Schema;
 
 impl Record {
     // Whether the record is as SPECIFICATION, The record, has it: what refusal 14 asks.
     pub fn is_good(self) -> bool
         ensures { result ≡ good_record self }
     {
-        let relations = self.relations;
+        let Some(schema) = Schema::new(self.relations, self.widths) else {
+            return false;
+        };
+        schema.dependencies_good(self.held, self.dependencies)
+            && schema.joins_good(self.joined, self.joins)
+            && schema.places_good(self.places)
+    }
+
+    // The schema of a good record.
+    pub fn schema(self) -> Schema
+        requires { good_record self ≡ true }
+        ensures relations { result.relations ≡ self.relations }
+        ensures widths { result.widths ≡ self.widths }
+        ensures value { widths_in result ≡ schema_of self }
+    {
         let widths = self.widths;
-        let held = self.held;
-        let dependencies = self.dependencies;
-        let joined = self.joined;
-        let joins = self.joins;
-        let places = self.places;
-        if !limits::relations_good(relations, widths) {
-            return false;
+        Schema {
+            relations: self.relations,
+            widths,
         }
-        if !limits::dependencies_good(relations, widths, held, dependencies) {
-            return false;
-        }
-        if !limits::joins_good(relations, widths, joined, joins) {
-            return false;
-        }
-        limits::places_good(relations, widths, places)
     }
 }

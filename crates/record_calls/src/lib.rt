@@ -74,14 +74,12 @@ pub fn drop_query(given: Record, place: usize) -> Outcome
 pub fn determined(given: Record, relation: u8, left: u8) -> Result<Columns, Refusal>
     ensures { columns_reply result ≡ determined_columns given relation left }
 {
-    let relations = given.relations;
-    let widths = given.widths;
     let held = given.held;
     let dependencies = given.dependencies;
     if !given.is_good() {
         return Err(Refusal::BadRecord);
     }
-    if !limits::set_good(relations, widths, relation, left) {
+    if !given.schema().set_good(relation, left) {
         return Err(Refusal::BadDependency);
     }
     let mask = closure::closed_columns(&dependencies[..held as usize], relation, left);

@@ -12,6 +12,7 @@ use lib.Dec.{lit<}
 use lib.ListN.{length, take}
 use Rattle.query.specs.declared.Dependency.{Dependency}
 use Rattle.query.specs.View.{dependency_of}
+use Rattle.query.specs.Rule.{good_set}
 use Rattle.closure.specs.internal.Closure.{grow_mask}
 use borrow.Author.Rules.{rules}
 use Rattle.record.specs.Rule.{good_record}
@@ -31,13 +32,13 @@ returns-then-not-is_good c =
     determined-broken c.args.given c.args.relation
     c.args.left (sym c.is_good.ensures ∙ c.if-not-is_good.true)
 
-pub set_good-requires : goal.set_good-requires
-set_good-requires c = (good-record c.args.given (good (goal.at.set_good-requires c).Else-not-is_good)).relations
+pub schema-requires : goal.schema-requires
+schema-requires c = good (goal.at.schema-requires c).Else-not-is_good
 
 pub returns-then-not-set_good : goal.returns-then-not-set_good
 returns-then-not-set_good c =
     determined-unfit c.args.given c.args.relation
-    c.args.left (good (goal.at.returns-then-not-set_good c).Else-not-is_good) (sym c.set_good.ensures ∙ c.if-not-set_good.true)
+    c.args.left (good (goal.at.returns-then-not-set_good c).Else-not-is_good) (ap (λ (schema : List ℕ). good_set schema c.args.relation c.args.left) (sym c.schema.ensures.value) ∙ sym c.set_good.ensures ∙ c.if-not-set_good.true)
 
 fits : (held : ℕ) (xs : List Dependency) → held ≤ 32 → length xs ≡ 32 → held ≤ length xs
 fits held xs h l = omega arith
@@ -65,7 +66,7 @@ returns c =
     let long : length given.dependencies ≡ 32 = search (mapped-length, rules) in
     determined-done c.args.given
     c.args.relation c.args.left
-    (good (goal.at.returns c).Else-not-is_good) (sym c.set_good.ensures ∙ c.if-not-set_good.false) long
+    (good (goal.at.returns c).Else-not-is_good) (ap (λ (schema : List ℕ). good_set schema c.args.relation c.args.left) (sym c.schema.ensures.value) ∙ sym c.set_good.ensures ∙ c.if-not-set_good.false) long
     c.closed_columns-mask.result
     (c.closed_columns-mask.ensures
     ∙ ap (λ (n : ℕ). grow_mask n (map dependency_of (take given.held given.dependencies)) c.args.relation c.args.left)

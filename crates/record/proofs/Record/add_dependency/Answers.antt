@@ -2,7 +2,9 @@
 -- Assumes nothing.
 use mathlib.Core.Path.{sym, ap, ◌∙◌}
 use mathlib.Core.Option.{none}
-use Prim.Native.Nat.{◌≤◌}
+use mathlib.Core.List.{List}
+use Prim.Native.Nat.{ℕ, ◌≤◌}
+use Rattle.query.specs.Rule.{good_dependency}
 use native.Mathlib.Omega.{arith}
 use Rattle.record.specs.declared.Record.{Record}
 use Rattle.record.specs.Calls.{concluded}
@@ -15,22 +17,22 @@ returns-then-not-is_good c =
     c.refused.ensures ∙ add-broken c.args.self c.args.d
     (sym c.is_good.ensures ∙ c.if-not-is_good.true)
 
-pub dependency_good-requires : goal.dependency_good-requires
-dependency_good-requires c = (good-record c.args.self (sym c.is_good.ensures ∙ c.if-not-is_good.false)).relations
+pub schema-requires : goal.schema-requires
+schema-requires c = sym c.is_good.ensures ∙ c.if-not-is_good.false
 
 pub returns-then-not-dependency_good : goal.returns-then-not-dependency_good
 returns-then-not-dependency_good c =
     c.refused-then-not-dependency_good.ensures ∙ add-unfit c.args.self
     c.args.d
     (sym c.is_good.ensures ∙ c.if-not-is_good.false)
-    (sym c.dependency_good.ensures ∙ c.if-not-dependency_good.true)
+    (ap (λ (schema : List ℕ). good_dependency schema c.args.d) (sym c.schema.ensures.value) ∙ sym c.dependency_good.ensures ∙ c.if-not-dependency_good.true)
 
 pub returns-then-held-eq32 : goal.returns-then-held-eq32
 returns-then-held-eq32 c =
     c.refused-then-held-eq32.ensures ∙ add-full c.args.self
     c.args.d
     (sym c.is_good.ensures ∙ c.if-not-is_good.false)
-    (sym c.dependency_good.ensures ∙ c.if-not-dependency_good.false) c.if-held-eq32.true
+    (ap (λ (schema : List ℕ). good_dependency schema c.args.d) (sym c.schema.ensures.value) ∙ sym c.dependency_good.ensures ∙ c.if-not-dependency_good.false) c.if-held-eq32.true
 
 pub with_dependency-requires : goal.with_dependency-requires
 with_dependency-requires c =
@@ -46,4 +48,4 @@ returns c =
     ∙ add_done c.args.self
     c.args.d
     (sym c.is_good.ensures ∙ c.if-not-is_good.false)
-    (sym c.dependency_good.ensures ∙ c.if-not-dependency_good.false) c.if-held-eq32.false
+    (ap (λ (schema : List ℕ). good_dependency schema c.args.d) (sym c.schema.ensures.value) ∙ sym c.dependency_good.ensures ∙ c.if-not-dependency_good.false) c.if-held-eq32.false

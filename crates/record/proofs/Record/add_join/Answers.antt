@@ -2,7 +2,9 @@
 -- Assumes nothing.
 use mathlib.Core.Path.{sym, ap, ◌∙◌}
 use mathlib.Core.Option.{none}
-use Prim.Native.Nat.{◌≤◌}
+use mathlib.Core.List.{List}
+use Prim.Native.Nat.{ℕ, ◌≤◌}
+use Rattle.query.specs.Rule.{good_join}
 use native.Mathlib.Omega.{arith}
 use Rattle.record.specs.declared.Record.{Record}
 use Rattle.record.specs.Calls.{concluded}
@@ -15,22 +17,22 @@ returns-then-not-is_good c =
     c.refused.ensures ∙ join-broken c.args.self c.args.j
     (sym c.is_good.ensures ∙ c.if-not-is_good.true)
 
-pub join_good-requires : goal.join_good-requires
-join_good-requires c = (good-record c.args.self (sym c.is_good.ensures ∙ c.if-not-is_good.false)).relations
+pub schema-requires : goal.schema-requires
+schema-requires c = sym c.is_good.ensures ∙ c.if-not-is_good.false
 
 pub returns-then-not-join_good : goal.returns-then-not-join_good
 returns-then-not-join_good c =
     c.refused-then-not-join_good.ensures ∙ join-unfit c.args.self
     c.args.j
     (sym c.is_good.ensures ∙ c.if-not-is_good.false)
-    (sym c.join_good.ensures ∙ c.if-not-join_good.true)
+    (ap (λ (schema : List ℕ). good_join schema c.args.j) (sym c.schema.ensures.value) ∙ sym c.join_good.ensures ∙ c.if-not-join_good.true)
 
 pub returns-then-joined-eq4 : goal.returns-then-joined-eq4
 returns-then-joined-eq4 c =
     c.refused-then-joined-eq4.ensures ∙ join-full c.args.self
     c.args.j
     (sym c.is_good.ensures ∙ c.if-not-is_good.false)
-    (sym c.join_good.ensures ∙ c.if-not-join_good.false) c.if-joined-eq4.true
+    (ap (λ (schema : List ℕ). good_join schema c.args.j) (sym c.schema.ensures.value) ∙ sym c.join_good.ensures ∙ c.if-not-join_good.false) c.if-joined-eq4.true
 
 pub with_join-requires : goal.with_join-requires
 with_join-requires c =
@@ -46,4 +48,4 @@ returns c =
     ∙ join-done c.args.self
     c.args.j
     (sym c.is_good.ensures ∙ c.if-not-is_good.false)
-    (sym c.join_good.ensures ∙ c.if-not-join_good.false) c.if-joined-eq4.false
+    (ap (λ (schema : List ℕ). good_join schema c.args.j) (sym c.schema.ensures.value) ∙ sym c.join_good.ensures ∙ c.if-not-join_good.false) c.if-joined-eq4.false

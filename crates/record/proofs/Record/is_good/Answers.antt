@@ -1,61 +1,51 @@
 -- `record::Record::is_good` meets its contract: the tests are those of `good_record` in its order, and the first that fails decides.
 -- Assumes nothing.
-use mathlib.Core.Path.{◌≡◌, sym, ◌∙◌}
-use mathlib.Core.Bool.{true, false}
-use Rattle.record.specs.declared.Record.{Record}
-use Rattle.record.specs.View.{schema_of}
+use Rattle.std.proofs.Common.{◌≡◌, true, false, sym, ◌∙◌}
 use Rattle.lists.specs.Tests.{every}
 use Rattle.query.specs.Rule.{good_relations, good_dependencies, good_joins, good_place}
+use Rattle.limits.specs.declared.schema.Schema.{Schema}
+use Rattle.limits.specs.Schema.{widths_in}
+use Rattle.record.specs.declared.Record.{Record}
 use Rattle.record.specs.Rule.{good_record}
 use Rattle.record.proofs.Record.is_good.Goals as goal
+use Rattle.record.proofs.Record.is_good.Goals.{then-dependencies_good, else-dependencies_good}
 
-module _ (r : Record) where
-  stops-1 : good_relations r.relations r.widths ≡ false → false ≡ good_record r
+broken : (r : Record) → good_relations r.relations r.widths ≡ false → false ≡ good_record r
+unfolding good_record
+broken r e = rw e
+
+module _ (r : Record) (s : Schema) (relations : s.relations ≡ r.relations) (widths : s.widths ≡ r.widths) where
+  known : good_relations r.relations r.widths ≡ true
+  known = rw (← relations, ← widths) s.good
+
+  dependencies-fail : good_dependencies (widths_in s) r.held r.dependencies ≡ false → false ≡ good_record r
   unfolding good_record
-  stops-1 e = rw e
+  dependencies-fail e = rw (known, ← relations, ← widths, e)
 
-  module _ (relations : good_relations r.relations r.widths ≡ true) where
-    stops-2 : good_dependencies (schema_of r) r.held r.dependencies ≡ false → false ≡ good_record r
+  module _ (dependencies : good_dependencies (widths_in s) r.held r.dependencies ≡ true) where
+    joins-fail : good_joins (widths_in s) r.joined r.joins ≡ false → false ≡ good_record r
     unfolding good_record
-    stops-2 e = rw (relations, e)
+    joins-fail e = rw (known, ← relations, ← widths, dependencies, e)
 
-    module _ (dependencies : good_dependencies (schema_of r) r.held r.dependencies ≡ true) where
-      stops-3 : good_joins (schema_of r) r.joined r.joins ≡ false → false ≡ good_record r
-      unfolding good_record
-      stops-3 e = rw (relations, dependencies, e)
+    passes : good_joins (widths_in s) r.joined r.joins ≡ true → every (good_place (widths_in s)) r.places ≡ good_record r
+    unfolding good_record
+    passes e = rw (known, ← relations, ← widths, dependencies, e)
 
-      goes : good_joins (schema_of r) r.joined r.joins ≡ true → every (good_place (schema_of r)) r.places ≡ good_record r
-      unfolding good_record
-      goes e = rw (relations, dependencies, e)
+pub returns-in_default : goal.returns-in_default
+returns-in_default c = broken c.args.self (sym c.in_default.ensures.some)
 
-pub returns-then-not-relations_good : goal.returns-then-not-relations_good
-returns-then-not-relations_good c = stops-1 c.args.self (sym c.relations_good.ensures ∙ c.if-not-relations_good.true)
+pub returns-then-joins_good : goal.returns-then-joins_good
+returns-then-joins_good c =
+    let fields = c.in-Some.ensures.fields in
+    elim c.if-dependencies_good.branch [
+      | then-dependencies_good w ↦ c.places_good.ensures ∙ passes c.args.self c.in-Some.schema fields.0 fields.1 (cc) (cc)
+      | else-dependencies_good w ↦ cc
+    ]
 
-pub dependencies_good-requires : goal.dependencies_good-requires
-dependencies_good-requires c = sym c.relations_good.ensures ∙ c.if-not-relations_good.false
-
-pub returns-then-not-dependencies_good : goal.returns-then-not-dependencies_good
-returns-then-not-dependencies_good c =
-    stops-2 c.args.self
-    (sym c.relations_good.ensures ∙ c.if-not-relations_good.false)
-    (sym c.dependencies_good.ensures ∙ c.if-not-dependencies_good.true)
-
-pub joins_good-requires : goal.joins_good-requires
-joins_good-requires c = sym c.relations_good.ensures ∙ c.if-not-relations_good.false
-
-pub returns-then-not-joins_good : goal.returns-then-not-joins_good
-returns-then-not-joins_good c =
-    stops-3 c.args.self
-    (sym c.relations_good.ensures ∙ c.if-not-relations_good.false)
-    (sym c.dependencies_good.ensures ∙ c.if-not-dependencies_good.false)
-    (sym c.joins_good.ensures ∙ c.if-not-joins_good.true)
-
-pub places_good-requires : goal.places_good-requires
-places_good-requires c = sym c.relations_good.ensures ∙ c.if-not-relations_good.false
-
-pub returns : goal.returns
-returns c =
-    c.places_good.ensures ∙ goes c.args.self
-    (sym c.relations_good.ensures ∙ c.if-not-relations_good.false)
-    (sym c.dependencies_good.ensures ∙ c.if-not-dependencies_good.false)
-    (sym c.joins_good.ensures ∙ c.if-not-joins_good.false)
+pub returns-else-joins_good : goal.returns-else-joins_good
+returns-else-joins_good c =
+    let fields = c.in-Some.ensures.fields in
+    elim c.if-dependencies_good.branch [
+      | then-dependencies_good w ↦ c.if-joins_good.false ∙ joins-fail c.args.self c.in-Some.schema fields.0 fields.1 (cc) (cc)
+      | else-dependencies_good w ↦ c.if-joins_good.false ∙ dependencies-fail c.args.self c.in-Some.schema fields.0 fields.1 (cc)
+    ]

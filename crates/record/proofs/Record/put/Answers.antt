@@ -2,7 +2,8 @@
 -- Assumes nothing.
 use mathlib.Core.Path.{◌≡◌, sym, ap, ◌∙◌}
 use mathlib.Core.Bool.{true}
-use mathlib.Core.Option.{none, some}
+use mathlib.Core.List.{List}
+use mathlib.Core.Option.{none}
 use Prim.Native.Nat.{ℕ, ◌<◌}
 use native.Mathlib.Omega.{arith}
 use Rattle.record.specs.declared.Record.{Record}
@@ -13,7 +14,6 @@ use Rattle.record.specs.Calls.{concluded}
 use Rattle.refusals.specs.Refusals.{gives}
 use Rattle.refusals.specs.Refusal.{number_of, reply_of}
 use Rattle.record.specs.internal.Lookup.{vacant_place}
-use Rattle.record.proofs.Good.{good-record}
 use Rattle.query.proofs.Good.{good-query}
 use Rattle.record.proofs.Refusals.{place-at, vacant-at}
 use Rattle.record.proofs.Outcomes.{put-broken, put-high, put-unfit, put-unsafe, put-filled, put-done}
@@ -37,12 +37,12 @@ low c =
 fit : (c : goal.Else-not-query_good)
     → good_query (schema_of c.args.self)
     c.args.q ≡ true
-fit c = sym c.query_good.ensures ∙ c.if-not-query_good.false
+fit c = ap (λ (schema : List ℕ). good_query schema c.args.q) (sym c.schema-schema.ensures.value) ∙ sym c.query_good.ensures ∙ c.if-not-query_good.false
 
 safe : (c : goal.Else-not-head_safe)
     → head_safe (schema_of c.args.self)
     c.args.q ≡ true
-safe c = sym c.head_safe.ensures ∙ c.if-not-head_safe.false
+safe c = ap (λ (schema : List ℕ). head_safe schema c.args.q) (sym c.schema-schema.ensures.value) ∙ sym c.head_safe.ensures ∙ c.if-not-head_safe.false
 
 pub returns-in_default : goal.returns-in_default
 returns-in_default c =
@@ -52,8 +52,8 @@ returns-in_default c =
     c.args.q (good (goal.at.returns-in_default c).Else-not-is_good) (number_of c.unwrap_err.result)
     (sym c.place_at-found.ensures ∙ ap reply_of c.unwrap_err.ensures)
 
-pub query_good-requires : goal.query_good-requires
-query_good-requires c = (good-record c.args.self (good (goal.at.query_good-requires c).Else-not-is_good)).relations
+pub schema-schema-requires : goal.schema-schema-requires
+schema-schema-requires c = good (goal.at.schema-schema-requires c).Else-not-is_good
 
 pub returns-then-not-query_good : goal.returns-then-not-query_good
 returns-then-not-query_good c =
@@ -61,19 +61,15 @@ returns-then-not-query_good c =
     ∙ put-unfit c.args.self
     c.args.place
     c.args.q (good (goal.at.returns-then-not-query_good c).Else-not-is_good)
-    (low (goal.at.returns-then-not-query_good c).In-Ok) (sym c.query_good.ensures ∙ c.if-not-query_good.true)
+    (low (goal.at.returns-then-not-query_good c).In-Ok) (ap (λ (schema : List ℕ). good_query schema c.args.q) (sym c.schema-schema.ensures.value) ∙ sym c.query_good.ensures ∙ c.if-not-query_good.true)
 
 pub head_safe-requires : goal.head_safe-requires
 head_safe-requires c =
     let within =
     good-query 12 (schema_of c.args.self)
     c.args.q (fit (goal.at.head_safe-requires c).Else-not-query_good)
-    in (
-      (good-record c.args.self
-          (good (goal.at.head_safe-requires c).Else-not-is_good)).relations,
-      within.arity,
-      within.size,
-    )
+    in
+    (within.arity, within.size)
 
 pub returns-then-not-head_safe : goal.returns-then-not-head_safe
 returns-then-not-head_safe c =
@@ -83,7 +79,7 @@ returns-then-not-head_safe c =
     c.args.q
     (good (goal.at.returns-then-not-head_safe c).Else-not-is_good) (low (goal.at.returns-then-not-head_safe c).In-Ok)
     (fit (goal.at.returns-then-not-head_safe c).Else-not-query_good)
-    (sym c.head_safe.ensures ∙ c.if-not-head_safe.true)
+    (ap (λ (schema : List ℕ). head_safe schema c.args.q) (sym c.schema-schema.ensures.value) ∙ sym c.head_safe.ensures ∙ c.if-not-head_safe.true)
 
 pub returns-in_default-found : goal.returns-in_default-found
 returns-in_default-found c =
