@@ -5,13 +5,15 @@ ghost use Rattle.std.specs.Prelude.{◌≡◌, true, ◌+◌, ◌*◌, ◌≤◌
 ghost use mathlib.Core.List.{map, flatten};
 ghost use Rattle.lists.specs.Tests.{every};
 ghost use Rattle.lists.specs.Over.{over};
-ghost use Rattle.query.specs.Rule.{good_relations, good_place};
+ghost use Rattle.query.specs.Rule.{good_place};
+ghost use Rattle.limits.specs.Schema.{widths_in};
 ghost use Rattle.record.specs.Rule.{good_record};
 ghost use Rattle.format.specs.Parts.{relations};
 ghost use Rattle.format.specs.File.{table_of, put_place, up_to_filled};
 ghost use Rattle.assembly.specs.internal.Pieces.{put_dependency, dependency_bytes, put_join, few_sets, joins_bytes, directory_bytes, part_bytes};
 
 use encoder::{place_length, put_place, put_word};
+use limits::schema::Schema;
 use query::{Dependency, JoinDependency, Place};
 use record::Record;
 
@@ -31,15 +33,14 @@ pub fn up_to_filled(places: [Place; 8]) -> usize
 }
 
 // How long the parts of the first n places are.
-pub fn places_length(places: [Place; 8], n: usize, count: u8, widths: [u8; 8]) -> usize
-    requires widths_value { good_relations count widths ≡ true }
-    requires places_value { every (good_place (take count widths)) places ≡ true }
+pub fn places_length(places: [Place; 8], n: usize, schema: Schema) -> usize
+    requires places_value { every (good_place (widths_in schema)) places ≡ true }
     requires n_bound { n ≤ 8 }
-    ensures { (result ≡ length (flatten (map (put_place (take count widths)) (take n places)))) × (result ≤ 4272) }
+    ensures { (result ≡ length (flatten (map (put_place (widths_in schema)) (take n places)))) × (result ≤ 4272) }
 {
     let mut sum = 0;
     for place in &places[..n] {
-        sum += place_length(*place, count, widths);
+        sum += place_length(*place, schema);
     }
     sum
 }
@@ -70,14 +71,13 @@ pub fn joins_length(joined: u8, list: [JoinDependency; 4]) -> usize
 // ---- part 0 and part 1
 
 // The relations at a position: their count, then a width byte each.
-fn put_relations(buffer: &mut [u8], at: usize, count: u8, widths: [u8; 8])
-    requires count_bound { count ≤ 8 }
-    requires count_in_bounds { at + 1 + count ≤ length buffer.old }
-    ensures { buffer.new ≡ over buffer.old at (relations.put (count, widths)) }
+fn put_relations(buffer: &mut [u8], at: usize, schema: Schema)
+    requires { at + 1 + schema.relations ≤ length buffer.old }
+    ensures { buffer.new ≡ over buffer.old at (relations.put (schema.relations, schema.widths)) }
 {
-    let n = count as usize;
-    buffer[at] = count;
-    buffer[at + 1..at + 1 + n].copy_from_slice(&widths[..n]);
+    let n = schema.relations as usize;
+    buffer[at] = schema.relations;
+    buffer[at + 1..at + 1 + n].copy_from_slice(&schema.widths[..n]);
 }
 
 // A functional dependency at a position: relation, left set and right column, a byte each.
@@ -139,18 +139,16 @@ fn put_table(
     start: usize,
     places: [Place; 8],
     n: usize,
-    count: u8,
-    widths: [u8; 8],
+    schema: Schema,
 )
-    requires widths_value { good_relations count widths ≡ true }
-    requires places_value { every (good_place (take count widths)) places ≡ true }
+    requires places_value { every (good_place (widths_in schema)) places ≡ true }
     requires n_bound { (n ≤ 8) × (start ≤ 1000) }
     requires n_in_bounds { at + 4 * n ≤ length buffer.old }
-    ensures { buffer.new ≡ over buffer.old at (table_of start (map (put_place (take count widths)) (take n places))) }
+    ensures { buffer.new ≡ over buffer.old at (table_of start (map (put_place (widths_in schema)) (take n places))) }
 {
     let mut due = start;
     for (k, place) in places[..n].iter().enumerate() {
-        let size = place_length(*place, count, widths);
+        let size = place_length(*place, schema);
         put_word(buffer, at + 4 * k, due);
         put_word(buffer, at + 4 * k + 2, size);
         due = due + size;
@@ -158,23 +156,15 @@ fn put_table(
 }
 
 // The parts of the first n places from a position on.
-fn put_places(
-    buffer: &mut [u8],
-    start: usize,
-    places: [Place; 8],
-    n: usize,
-    count: u8,
-    widths: [u8; 8],
-)
-    requires widths_value { good_relations count widths ≡ true }
-    requires places_value { every (good_place (take count widths)) places ≡ true }
+fn put_places(buffer: &mut [u8], start: usize, places: [Place; 8], n: usize, schema: Schema)
+    requires places_value { every (good_place (widths_in schema)) places ≡ true }
     requires n_bound { n ≤ 8 }
-    requires places_in_bounds { start + length (flatten (map (put_place (take count widths)) (take n places))) ≤ length buffer.old }
-    ensures { buffer.new ≡ over buffer.old start (flatten (map (put_place (take count widths)) (take n places))) }
+    requires places_in_bounds { start + length (flatten (map (put_place (widths_in schema)) (take n places))) ≤ length buffer.old }
+    ensures { buffer.new ≡ over buffer.old start (flatten (map (put_place (widths_in schema)) (take n places))) }
 {
     let mut at = start;
     for place in &places[..n] {
-        at = put_place(buffer, at, *place, count, widths);
+        at = put_place(buffer, at, *place, schema);
     }
 }
 
@@ -185,14 +175,12 @@ pub fn put_directory(
     second: usize,
     places: [Place; 8],
     n: usize,
-    count: u8,
-    widths: [u8; 8],
+    schema: Schema,
 )
-    requires widths_value { good_relations count widths ≡ true }
-    requires places_value { every (good_place (take count widths)) places ≡ true }
+    requires places_value { every (good_place (widths_in schema)) places ≡ true }
     requires n_bound { (n ≤ 8) × (first ≤ 9) × (second ≤ 122) }
     requires n_in_bounds { 10 + 4 * n ≤ length buffer.old }
-    ensures { buffer.new ≡ over buffer.old 0 (directory_bytes n first second (map (put_place (take count widths)) (take n places))) }
+    ensures { buffer.new ≡ over buffer.old 0 (directory_bytes n first second (map (put_place (widths_in schema)) (take n places))) }
 {
     let start = 2 + 4 * (n + 2);
     put_word(buffer, 0, n + 2);
@@ -200,7 +188,7 @@ pub fn put_directory(
     put_word(buffer, 4, first);
     put_word(buffer, 6, start + first);
     put_word(buffer, 8, second);
-    put_table(buffer, 10, start + first + second, places, n, count, widths);
+    put_table(buffer, 10, start + first + second, places, n, schema);
 }
 
 // All parts from a position on.
@@ -210,17 +198,16 @@ pub fn put_parts(buffer: &mut [u8], start: usize, given: Record, n: usize)
     requires n_in_bounds { start + length (part_bytes given n) ≤ length buffer.old }
     ensures { buffer.new ≡ over buffer.old start (part_bytes given n) }
 {
-    let count = given.relations;
-    let widths = given.widths;
+    let schema = given.schema();
     let held = given.held;
     let list = given.dependencies;
     let joined = given.joined;
     let joins = given.joins;
     let places = given.places;
-    let first = start + 1 + count as usize;
+    let first = start + 1 + given.relations as usize;
     let second = first + 1 + 3 * (held as usize);
-    put_relations(buffer, start, count, widths);
+    put_relations(buffer, start, schema);
     put_dependencies(buffer, first, held, list);
     let third = put_joins(buffer, second, joined, joins);
-    put_places(buffer, third, places, n, count, widths);
+    put_places(buffer, third, places, n, schema);
 }

@@ -1,2 +1,14 @@
-// Laws that tie the words of the library's chains of iterators to those of specs/. No code runs here.
+// Laws that tie the words of the library's chains of iterators to those of specs/, and an array made of a slice.
 #![tactic(auto)]
+
+ghost use Rattle.std.specs.Prelude.{◌≡◌, ◌-◌, ◌≤◌, ◌++◌, length, replicate};
+
+// Some elements in an array that has room for them, blank after them.
+pub fn padded<T: Copy, const N: usize>(xs: &[T], blank: T) -> [T; N]
+    requires { length xs.now ≤ N }
+    ensures { result ≡ xs.now ++ replicate (N - length xs.now) blank }
+{
+    let mut all = [blank; N];
+    all[..xs.len()].copy_from_slice(xs);
+    all
+}

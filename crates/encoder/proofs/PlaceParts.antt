@@ -19,11 +19,18 @@ use Rattle.format.specs.Parts.{entries, row, rows, chunk, query_for, query}
 use Rattle.format.specs.File.{put_place}
 use Rattle.lists.proofs.Tests.{and_left}
 use Rattle.format.proofs.Parts.{Narrow, narrow_at}
+use Rattle.format.proofs.Rules.{good-narrow}
+use Rattle.limits.specs.Schema.{widths_in}
+use Rattle.limits.specs.declared.schema.Schema.{Schema}
 use Rattle.query.proofs.Good.{good-query}
 use Rattle.query.proofs.Shape.{SizedFor}
 use Rattle.tableaux.specs.internal.Tableaux.{tableau_of}
 use Rattle.format.proofs.Lengths.{length-row, length-query}
 use Rattle.encoder.specs.internal.Lengths.{rows_length}
+
+-- A relation has at most 8 columns
+pub wide : (s : Schema) (relation width : ℕ) → width ≡ get_or (widths_in s) relation 0 → width ≤ 8
+wide s relation width e = rw e (narrow_at (widths_in s) relation (good-narrow s.relations s.widths s.good))
 
 module _ (schema : List ℕ) (narrow : Narrow schema) where
   rows-exact : (named : List ℕ) (cells : List Cell) (size : ℕ) → length cells ≡ 8 * length named

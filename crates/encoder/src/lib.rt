@@ -5,12 +5,14 @@ ghost use Rattle.std.specs.Prelude.{◌≡◌, true, ◌+◌, ◌*◌, ◌≤◌
 ghost use mathlib.Core.List.{◌∷◌, flat_map};
 ghost use Rattle.lists.specs.Over.{over};
 ghost use Rattle.query.specs.View.{as_query};
-ghost use Rattle.query.specs.Rule.{good_relations, good_place};
+ghost use Rattle.query.specs.Rule.{good_place};
+ghost use Rattle.limits.specs.Schema.{widths_in};
 ghost use Rattle.format.specs.Bytes.{bytes_of};
 ghost use Rattle.format.specs.Parts.{put_entry, entry, row, chunk, query_for};
 ghost use Rattle.format.specs.File.{put_place};
 ghost use Rattle.encoder.specs.internal.Lengths.{rows_length};
 
+use limits::schema::Schema;
 use query::{Cell, Entry, Place, Tableau};
 
 // ---- numbers and entries
@@ -56,14 +58,6 @@ fn put_entries(buffer: &mut [u8], at: usize, cells: &[Cell])
 
 // ---- rows
 
-// The width of a relation, 0 of an unknown one.
-fn width_of(count: u8, widths: [u8; 8], relation: u8) -> usize
-    requires { good_relations count widths ≡ true }
-    ensures { (result ≡ get_or (take count widths) relation 0) × (result ≤ 8) }
-{
-    limits::width_of(count, widths, relation) as usize
-}
-
 // A row at a position: the relation byte and the entries. Returns the position after it.
 fn put_row(buffer: &mut [u8], at: usize, relation: u8, cells: &[Cell]) -> usize
     requires { at + 1 + 5 * length cells.now ≤ length buffer.old }
@@ -75,23 +69,15 @@ fn put_row(buffer: &mut [u8], at: usize, relation: u8, cells: &[Cell]) -> usize
 }
 
 // Rows from a position on, row r having the 8 cells from 8 * r on. Returns the position after them.
-fn put_rows(
-    buffer: &mut [u8],
-    start: usize,
-    named: &[u8],
-    cells: &[Cell],
-    count: u8,
-    widths: [u8; 8],
-) -> usize
-    requires widths_value { good_relations count widths ≡ true }
+fn put_rows(buffer: &mut [u8], start: usize, named: &[u8], cells: &[Cell], schema: Schema) -> usize
     requires cells_long { 8 * length named.now ≤ length cells.now }
-    requires rows_in_bounds { start + length (flat_map (row (take count widths)).put (chunk named.now cells.now)) ≤ length buffer.old }
-    ensures { (buffer.new ≡ over buffer.old start (flat_map (row (take count widths)).put (chunk named.now cells.now))) ×
-        (result ≡ start + length (flat_map (row (take count widths)).put (chunk named.now cells.now))) }
+    requires rows_in_bounds { start + length (flat_map (row (widths_in schema)).put (chunk named.now cells.now)) ≤ length buffer.old }
+    ensures { (buffer.new ≡ over buffer.old start (flat_map (row (widths_in schema)).put (chunk named.now cells.now))) ×
+        (result ≡ start + length (flat_map (row (widths_in schema)).put (chunk named.now cells.now))) }
 {
     let mut at = start;
     for (r, relation) in named.iter().enumerate() {
-        let width = width_of(count, widths, *relation);
+        let width = schema.width_of(*relation) as usize;
         at = put_row(buffer, at, *relation, &cells[8 * r..8 * r + width]);
     }
     at
@@ -100,12 +86,11 @@ fn put_rows(
 // ---- query parts
 
 // The part of a tableau at a position. Returns the position after it.
-pub fn put_query(buffer: &mut [u8], at: usize, t: Tableau, count: u8, widths: [u8; 8]) -> usize
-    requires widths_value { good_relations count widths ≡ true }
+pub fn put_query(buffer: &mut [u8], at: usize, t: Tableau, schema: Schema) -> usize
     requires arity_bound { (t.arity ≤ 8) × (t.size ≤ 24) }
-    requires t_in_bounds { at + length ((query_for 24 (take count widths)).put (as_query t)) ≤ length buffer.old }
-    ensures { (buffer.new ≡ over buffer.old at ((query_for 24 (take count widths)).put (as_query t))) ×
-        (result ≡ at + length ((query_for 24 (take count widths)).put (as_query t))) }
+    requires t_in_bounds { at + length ((query_for 24 (widths_in schema)).put (as_query t)) ≤ length buffer.old }
+    ensures { (buffer.new ≡ over buffer.old at ((query_for 24 (widths_in schema)).put (as_query t))) ×
+        (result ≡ at + length ((query_for 24 (widths_in schema)).put (as_query t))) }
 {
     let used = limits::head_in_use(t.arity, t.size);
     buffer[at] = t.arity;
@@ -116,20 +101,18 @@ pub fn put_query(buffer: &mut [u8], at: usize, t: Tableau, count: u8, widths: [u
         at + 2 + 5 * used,
         &t.relations[..t.size as usize],
         &t.cells,
-        count,
-        widths,
+        schema,
     )
 }
 
 // The part of a place at a position: 255 alone if it is vacant, else its query. Returns the position after it.
-pub fn put_place(buffer: &mut [u8], at: usize, place: Place, count: u8, widths: [u8; 8]) -> usize
-    requires widths_value { good_relations count widths ≡ true }
-    requires place_value { good_place (take count widths) place ≡ true }
-    requires place_in_bounds { at + length (put_place (take count widths) place) ≤ length buffer.old }
-    ensures { (buffer.new ≡ over buffer.old at (put_place (take count widths) place)) × (result ≡ at + length (put_place (take count widths) place)) }
+pub fn put_place(buffer: &mut [u8], at: usize, place: Place, schema: Schema) -> usize
+    requires place_value { good_place (widths_in schema) place ≡ true }
+    requires place_in_bounds { at + length (put_place (widths_in schema) place) ≤ length buffer.old }
+    ensures { (buffer.new ≡ over buffer.old at (put_place (widths_in schema) place)) × (result ≡ at + length (put_place (widths_in schema) place)) }
 {
     if place.filled {
-        put_query(buffer, at, tableaux::from_query(place.query), count, widths)
+        put_query(buffer, at, tableaux::from_query(place.query), schema)
     } else {
         buffer[at] = 255;
         at + 1
@@ -139,37 +122,34 @@ pub fn put_place(buffer: &mut [u8], at: usize, place: Place, count: u8, widths: 
 // ---- lengths
 
 // How long the rows of these relations are.
-fn rows_length(named: &[u8], count: u8, widths: [u8; 8]) -> usize
-    requires widths_value { good_relations count widths ≡ true }
+fn rows_length(named: &[u8], schema: Schema) -> usize
     requires few { length named.now ≤ 24 }
-    ensures { (result ≡ rows_length (take count widths) named.now) × (result ≤ 41 * length named.now) }
+    ensures { (result ≡ rows_length (widths_in schema) named.now) × (result ≤ 41 * length named.now) }
 {
     let mut sum = 0;
     for relation in named {
-        sum += 1 + 5 * width_of(count, widths, *relation);
+        sum += 1 + 5 * schema.width_of(*relation) as usize;
     }
     sum
 }
 
 // How long the part of a tableau is.
-pub fn query_length(t: Tableau, count: u8, widths: [u8; 8]) -> usize
-    requires widths_value { good_relations count widths ≡ true }
+pub fn query_length(t: Tableau, schema: Schema) -> usize
     requires arity_bound { (t.arity ≤ 8) × (t.size ≤ 24) }
-    ensures { (result ≡ length ((query_for 24 (take count widths)).put (as_query t))) × (result ≤ 42 + 41 * t.size) }
+    ensures { (result ≡ length ((query_for 24 (widths_in schema)).put (as_query t))) × (result ≤ 42 + 41 * t.size) }
 {
     let used = limits::head_in_use(t.arity, t.size);
-    let rows = rows_length(&t.relations[..t.size as usize], count, widths);
+    let rows = rows_length(&t.relations[..t.size as usize], schema);
     2 + 5 * used + rows
 }
 
 // How long the part of a place is.
-pub fn place_length(place: Place, count: u8, widths: [u8; 8]) -> usize
-    requires widths_value { good_relations count widths ≡ true }
-    requires place_value { good_place (take count widths) place ≡ true }
-    ensures { (result ≡ length (put_place (take count widths) place)) × (result ≤ 534) }
+pub fn place_length(place: Place, schema: Schema) -> usize
+    requires place_value { good_place (widths_in schema) place ≡ true }
+    ensures { (result ≡ length (put_place (widths_in schema) place)) × (result ≤ 534) }
 {
     if place.filled {
-        query_length(tableaux::from_query(place.query), count, widths)
+        query_length(tableaux::from_query(place.query), schema)
     } else {
         1
     }

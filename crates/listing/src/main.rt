@@ -7,6 +7,7 @@ use std::io;
 use std::io::Read;
 
 // Reads until the buffer is full or the input ends, and returns how many bytes it has read.
+// Kept as it is: a `while`, since each turn reads on from where the one before it ended; of `read_exact` nothing is said where the input is shorter.
 fn read_full(input: &mut impl Read, buffer: &mut [u8]) -> io::Result<usize>
     ensures { IfOk result (λ n. n ≤ length buffer.new) }
 {

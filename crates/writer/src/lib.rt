@@ -15,21 +15,20 @@ pub fn write_good(given: Record, buffer: &mut [u8]) -> Result<usize, Refusal>
     requires { good_record given ≡ true }
     ensures { (reply_of result ≡ written given buffer.old) × (buffer.new ≡ after_writing given buffer.old) }
 {
-    let count = given.relations;
-    let widths = given.widths;
+    let schema = given.schema();
     let held = given.held;
     let joined = given.joined;
     let joins = given.joins;
     let places = given.places;
     let n = up_to_filled(places);
-    let first = 1 + count as usize;
+    let first = 1 + given.relations as usize;
     let second = 1 + 3 * (held as usize) + joins_length(joined, joins);
-    let others = places_length(places, n, count, widths);
+    let others = places_length(places, n, schema);
     let size = 2 + 4 * (n + 2) + first + second + others;
     if buffer.len() < size {
         return Err(Refusal::BufferTooShort);
     }
-    put_directory(buffer, first, second, places, n, count, widths);
+    put_directory(buffer, first, second, places, n, schema);
     put_parts(buffer, 2 + 4 * (n + 2), given, n);
     Ok(size)
 }

@@ -13,6 +13,7 @@ use Rattle.query.specs.Rule.{good_place}
 use Rattle.format.specs.File.{put_place}
 use Rattle.lists.proofs.Tests.{every-get_or}
 use Rattle.query.proofs.Shape.{past_place}
+use Rattle.limits.specs.Schema.{widths_in}
 use Rattle.assembly.proofs.FirstPlaces.{parts_next, parts-end}
 use Rattle.assembly.proofs.places_length.Goals as goal
 
@@ -49,8 +50,7 @@ pub place_length-sum-requires : goal.place_length-sum-requires
 place_length-sum-requires c =
     let l : length c.args.places ≡ 8 = search rules in
     record {
-      widths_value = c.requires.widths_value;
-      place_value = good (take c.args.count c.args.widths) c.args.places c.args.n c.loop-place.place-index (omega (arith, c.requires.n_bound))
+      place_value = good (widths_in c.args.schema) c.args.places c.args.n c.loop-place.place-index (omega (arith, c.requires.n_bound))
           c.loop-place-test.true c.requires.places_value;
     }
 
@@ -62,7 +62,7 @@ pub loop-place-preserved : goal.loop-place-preserved
 loop-place-preserved c =
     let l : length c.args.places ≡ 8 = search rules in
     let e =
-    step (take c.args.count c.args.widths) c.args.places c.args.n c.loop-place.place-index (omega (arith, c.requires.n_bound))
+    step (widths_in c.args.schema) c.args.places c.args.n c.loop-place.place-index (omega (arith, c.requires.n_bound))
     c.loop-place-test.true in
     (omega (arith, c.place_length-sum.ensures.1, c.loop-place.invariant.0), omega (arith, e, c.place_length-sum.ensures.0, c.loop-place.invariant.1))
 
@@ -72,6 +72,6 @@ returns c =
     let few : c.args.n ≤ length c.args.places = omega (arith, c.requires.n_bound) in
     let k : length (take c.args.n c.args.places) ≡ c.args.n = length-take-le c.args.n c.args.places few in
     let e =
-    none_left (take c.args.count c.args.widths) c.args.places c.args.n c.loop-place.place-index few
+    none_left (widths_in c.args.schema) c.args.places c.args.n c.loop-place.place-index few
     (omega (arith, c.loop-place-test.false)) in
     (omega (arith, e, c.loop-place.invariant.1), omega (arith, c.requires.n_bound, c.loop-place.invariant.0))

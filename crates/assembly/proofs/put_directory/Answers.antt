@@ -10,6 +10,7 @@ use Rattle.format.specs.File.{table_of, put_place}
 use Rattle.format.proofs.Directory.{length-table}
 use Rattle.format.proofs.Lengths.{take_short}
 use Rattle.encoder.proofs.Stores.{Run, run-starts, run-turns, word-run}
+use Rattle.limits.specs.Schema.{widths_in}
 use Rattle.assembly.proofs.put_directory.Goals as goal
 use Rattle.assembly.proofs.put_directory.Goals.{After-put_table}
 
@@ -115,7 +116,6 @@ put_table-requires c =
     run-5 a.buffer.now a.n a.first a.second [] c.requires.n_in_bounds c.put_word.new.buffer c.put_word.ensures c.put_word-2.new.buffer c.put_word-2.ensures
     c.put_word-3.new.buffer c.put_word-3.ensures c.put_word-4.new.buffer c.put_word-4.ensures c.put_word-5.new.buffer c.put_word-5.ensures in
     record {
-      widths_value = c.requires.widths_value;
       places_value = c.requires.places_value;
       n_bound = (c.requires.n_bound.0, omega (arith, c.requires.n_bound));
       n_in_bounds = omega (arith, run.long, c.requires.n_in_bounds);
@@ -123,12 +123,12 @@ put_table-requires c =
 
 -- The whole directory
 whole : (c : goal.After-put_table) → Run c.args.buffer.now 0
-    (bytes-5 c.args.buffer.now c.args.n c.args.first c.args.second (listed (take c.args.count c.args.widths) c.args.n c.args.places) c.requires.n_in_bounds
-    ++ table_of (2 + 4 * (c.args.n + 2) + c.args.first + c.args.second) (listed (take c.args.count c.args.widths) c.args.n c.args.places)) c.put_table.new.buffer
-    (10 + length (table_of (2 + 4 * (c.args.n + 2) + c.args.first + c.args.second) (listed (take c.args.count c.args.widths) c.args.n c.args.places)))
+    (bytes-5 c.args.buffer.now c.args.n c.args.first c.args.second (listed (widths_in c.args.schema) c.args.n c.args.places) c.requires.n_in_bounds
+    ++ table_of (2 + 4 * (c.args.n + 2) + c.args.first + c.args.second) (listed (widths_in c.args.schema) c.args.n c.args.places)) c.put_table.new.buffer
+    (10 + length (table_of (2 + 4 * (c.args.n + 2) + c.args.first + c.args.second) (listed (widths_in c.args.schema) c.args.n c.args.places)))
 whole c =
     let a = c.args in
-    let schema = take a.count a.widths in
+    let schema = widths_in a.schema in
     last-run a.buffer.now a.n a.first a.second (listed schema a.n a.places) c.requires.n_in_bounds c.put_word.new.buffer c.put_word.ensures
     c.put_word-2.new.buffer c.put_word-2.ensures c.put_word-3.new.buffer c.put_word-3.ensures c.put_word-4.new.buffer c.put_word-4.ensures
     c.put_word-5.new.buffer c.put_word-5.ensures c.put_table.new.buffer (few schema a.n a.places) c.put_table.ensures

@@ -13,7 +13,6 @@ use Rattle.format.specs.File.{put_place}
 use Rattle.assembly.specs.internal.Pieces.{dependency_bytes, joins_bytes, part_bytes}
 use Rattle.lists.proofs.Loops.{mapped-length}
 use Rattle.record.proofs.Good.{good-record}
-use Rattle.query.proofs.Relations.{relations-bounds}
 use Rattle.encoder.proofs.Stores.{Run, run-starts, run-turns}
 use Rattle.lists.specs.Over.{over}
 use Rattle.assembly.proofs.Joins.{few-sets}
@@ -106,12 +105,7 @@ pub overflow_add-second-2 : goal.overflow_add-second-2
 overflow_add-second-2 c = omega (arith, fits (goal.at.overflow_add-second-2 c).Start, short (goal.at.overflow_add-second-2 c).Start)
 
 pub put_relations-requires : goal.put_relations-requires
-put_relations-requires c =
-    let r = c.args.given in
-    record {
-      count_bound = (relations-bounds r.relations r.widths (good-record r c.requires.given_value).relations).1;
-      count_in_bounds = omega (arith, fits (goal.at.put_relations-requires c).Start);
-    }
+put_relations-requires c = rw c.schema-schema.ensures.relations (omega (arith, fits (goal.at.put_relations-requires c).Start))
 
 pub put_dependencies-requires : goal.put_dependencies-requires
 put_dependencies-requires c =
@@ -119,7 +113,7 @@ put_dependencies-requires c =
     let start' = (goal.at.put_dependencies-requires c).Start in
     let run =
     first_run a.buffer.now a.start a.given a.n c.requires.given_value (widths-long start') (list-long start') c.requires.n_in_bounds
-    c.put_relations.new.buffer c.put_relations.ensures in
+    c.put_relations.new.buffer (rw (c.schema-schema.ensures.relations, c.schema-schema.ensures.widths) at c.put_relations.ensures) in
     record { held_bound = (good-record a.given c.requires.given_value).held; held_in_bounds = omega (arith, run.long, fits start') }
 
 pub put_joins-third-requires : goal.put_joins-third-requires
@@ -129,7 +123,7 @@ put_joins-third-requires c =
     let parts = good-record a.given c.requires.given_value in
     let run =
     second_run a.buffer.now a.start a.given a.n c.requires.given_value (widths-long start') (list-long start') c.requires.n_in_bounds
-    c.put_relations.new.buffer c.put_relations.ensures c.put_dependencies.new.buffer c.put_dependencies.ensures in
+    c.put_relations.new.buffer (rw (c.schema-schema.ensures.relations, c.schema-schema.ensures.widths) at c.put_relations.ensures) c.put_dependencies.new.buffer c.put_dependencies.ensures in
     record {
       joined_bound = (parts.joined, few-sets (schema_of a.given) a.given.joined a.given.joins parts.joins);
       list_in_bounds = omega (arith, run.long, fits start');
@@ -142,13 +136,12 @@ put_places-requires c =
     let parts = good-record a.given c.requires.given_value in
     let run =
     third-run a.buffer.now a.start a.given a.n c.requires.given_value (widths-long start') (list-long start') c.requires.n_in_bounds
-    c.put_relations.new.buffer c.put_relations.ensures c.put_dependencies.new.buffer c.put_dependencies.ensures c.put_joins-third.new.buffer
+    c.put_relations.new.buffer (rw (c.schema-schema.ensures.relations, c.schema-schema.ensures.widths) at c.put_relations.ensures) c.put_dependencies.new.buffer c.put_dependencies.ensures c.put_joins-third.new.buffer
     c.put_joins-third.ensures.0 in
     record {
-      widths_value = parts.relations;
-      places_value = parts.places;
+      places_value = rw c.schema-schema.ensures.value parts.places;
       n_bound = c.requires.n_bound;
-      places_in_bounds = omega (arith, run.long, c.put_joins-third.ensures.1, fits start');
+      places_in_bounds = rw c.schema-schema.ensures.value (omega (arith, run.long, c.put_joins-third.ensures.1, fits start'));
     }
 
 -- All parts are written
@@ -160,9 +153,9 @@ whole c =
     let a = c.args in
     let lw : length a.given.widths ≡ 8 = search (mapped-length, rules) in
     let ld : length a.given.dependencies ≡ 32 = search (mapped-length, rules) in
-    fourth-run a.buffer.now a.start a.given a.n c.requires.given_value lw ld c.requires.n_in_bounds c.put_relations.new.buffer c.put_relations.ensures
+    fourth-run a.buffer.now a.start a.given a.n c.requires.given_value lw ld c.requires.n_in_bounds c.put_relations.new.buffer (rw (c.schema-schema.ensures.relations, c.schema-schema.ensures.widths) at c.put_relations.ensures)
     c.put_dependencies.new.buffer c.put_dependencies.ensures c.put_joins-third.new.buffer c.put_joins-third.ensures.0 c.put_places.new.buffer
-    c.put_joins-third.result c.put_joins-third.ensures.1 c.put_places.ensures
+    c.put_joins-third.result c.put_joins-third.ensures.1 (rw c.schema-schema.ensures.value at c.put_places.ensures)
 
 pub shape_of-buffer : goal.shape_of-buffer
 shape_of-buffer c = (whole (goal.at.shape_of-buffer c).After-put_places).long

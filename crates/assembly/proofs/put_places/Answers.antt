@@ -14,6 +14,7 @@ use Rattle.format.specs.File.{put_place}
 use Rattle.lists.proofs.Tests.{every-get_or}
 use Rattle.query.proofs.Shape.{past_place}
 use Rattle.encoder.proofs.Stores.{writing-starts, writing-room, writing-turns, writing-ends}
+use Rattle.limits.specs.Schema.{widths_in}
 use Rattle.assembly.proofs.put_places.Goals as goal
 
 joined : (f : Place → List ℕ) (ps : List Place) → flatten (map f ps) ≡ flat_map f ps
@@ -31,7 +32,7 @@ good schema places n k l e h =
 
 pub loop-place-init : goal.loop-place-init
 loop-place-init c =
-    let schema = take c.args.count c.args.widths in
+    let schema = widths_in c.args.schema in
     let first = take c.args.n c.args.places in
     writing-starts (put_place schema) c.args.buffer.now c.args.start first (rw (← joined (put_place schema) first) c.requires.places_in_bounds)
 
@@ -39,9 +40,8 @@ pub put_place-at-requires : goal.put_place-at-requires
 put_place-at-requires c =
     let l : length c.args.places ≡ 8 = search rules in
     record {
-      widths_value = c.requires.widths_value;
       place_value =
-          good (take c.args.count c.args.widths) c.args.places c.args.n c.loop-place.place-index (omega (arith, c.requires.n_bound))
+          good (widths_in c.args.schema) c.args.places c.args.n c.loop-place.place-index (omega (arith, c.requires.n_bound))
           c.requires.places_value c.loop-place-test.true;
       place_in_bounds = writing-room c.loop-place.invariant past_place c.loop-place-test.true;
     }
@@ -58,4 +58,4 @@ pub returns : goal.returns
 returns c =
     (writing-ends c.loop-place.invariant c.loop-place-test.false).0
     ∙ ap (over c.args.buffer.now c.args.start)
-    (sym (joined (put_place (take c.args.count c.args.widths)) (take c.args.n c.args.places)))
+    (sym (joined (put_place (widths_in c.args.schema)) (take c.args.n c.args.places)))

@@ -1,7 +1,7 @@
-use lib.ListN.{take}
 use Rattle.format.specs.File.{put_place}
 use Rattle.encoder.proofs.Stores.{Writing}
+use Rattle.limits.specs.Schema.{widths_in}
 use Rattle.assembly.proofs.put_places.Given as goal
 
 abbrev pub invariant-loop-place : goal.invariant-loop-place
-invariant-loop-place l = Writing (put_place (take l.count l.widths)) l.initial.buffer l.start l.place-items l.buffer l.at l.place-index
+invariant-loop-place l = Writing (put_place (widths_in l.schema)) l.initial.buffer l.start l.place-items l.buffer l.at l.place-index

@@ -16,6 +16,7 @@ use Rattle.lists.proofs.Tests.{every-get_or}
 use Rattle.query.proofs.Shape.{past_place}
 use Rattle.format.proofs.Numbers.{length-bytes}
 use Rattle.format.proofs.Directory.{length-table}
+use Rattle.limits.specs.Schema.{widths_in}
 use Rattle.assembly.proofs.FirstPlaces.{parts_next, parts-end}
 use Rattle.assembly.proofs.put_table.Invariants.{parts_from, At}
 use Rattle.assembly.proofs.put_table.Goals as goal
@@ -103,17 +104,16 @@ same n k places h = get_or-take n places k past_place (low n k places h)
 
 pub loop-k-init : goal.loop-k-init
 loop-k-init c =
-    begins (take c.args.count c.args.widths) c.args.buffer.now c.args.at c.args.start
+    begins (widths_in c.args.schema) c.args.buffer.now c.args.at c.args.start
     c.args.n c.args.places c.requires.n_bound.1
 
 pub place_length-size-requires : goal.place_length-size-requires
 place_length-size-requires c =
     let l : length c.args.places ≡ 8 = search rules in
     record {
-      widths_value = c.requires.widths_value;
       place_value =
           rw (same c.args.n c.loop-k.k c.args.places c.loop-k-test.true)
-          (every-get_or (good_place (take c.args.count c.args.widths)) c.args.places c.loop-k.k past_place
+          (every-get_or (good_place (widths_in c.args.schema)) c.args.places c.loop-k.k past_place
           c.requires.places_value (omega (arith, c.requires.n_bound.0, low c.args.n c.loop-k.k c.args.places c.loop-k-test.true)));
     }
 
@@ -122,7 +122,7 @@ overflow_mul-k c =
     let l : length c.args.places ≡ 8 = search rules in
     omega (
       arith,
-      room-first (take c.args.count c.args.widths) c.args.buffer.now c.args.at c.args.start
+      room-first (widths_in c.args.schema) c.args.buffer.now c.args.at c.args.start
           c.args.n c.args.places c.loop-k.buffer c.loop-k.due c.loop-k.k (omega (arith, c.requires.n_bound.0))
           c.requires.n_in_bounds c.loop-k.invariant (low c.args.n c.loop-k.k c.args.places c.loop-k-test.true),
     )
@@ -132,7 +132,7 @@ overflow_add-at c =
     let l : length c.args.places ≡ 8 = search rules in
     omega (
       arith,
-      room-first (take c.args.count c.args.widths) c.args.buffer.now c.args.at c.args.start
+      room-first (widths_in c.args.schema) c.args.buffer.now c.args.at c.args.start
           c.args.n c.args.places c.loop-k.buffer c.loop-k.due c.loop-k.k (omega (arith, c.requires.n_bound.0))
           c.requires.n_in_bounds c.loop-k.invariant (low c.args.n c.loop-k.k c.args.places c.loop-k-test.true),
     )
@@ -140,7 +140,7 @@ overflow_add-at c =
 pub put_word-requires : goal.put_word-requires
 put_word-requires c =
     let l : length c.args.places ≡ 8 = search rules in
-    room-first (take c.args.count c.args.widths) c.args.buffer.now c.args.at c.args.start c.args.n
+    room-first (widths_in c.args.schema) c.args.buffer.now c.args.at c.args.start c.args.n
     c.args.places c.loop-k.buffer c.loop-k.due c.loop-k.k (omega (arith, c.requires.n_bound.0)) c.requires.n_in_bounds
     c.loop-k.invariant (low c.args.n c.loop-k.k c.args.places c.loop-k-test.true)
 
@@ -149,7 +149,7 @@ overflow_mul-k-in-loop-k c =
     let l : length c.args.places ≡ 8 = search rules in
     omega (
       arith,
-      room-first (take c.args.count c.args.widths) c.args.buffer.now c.args.at c.args.start
+      room-first (widths_in c.args.schema) c.args.buffer.now c.args.at c.args.start
           c.args.n c.args.places c.loop-k.buffer c.loop-k.due c.loop-k.k (omega (arith, c.requires.n_bound.0))
           c.requires.n_in_bounds c.loop-k.invariant (low c.args.n c.loop-k.k c.args.places c.loop-k-test.true),
     )
@@ -159,7 +159,7 @@ overflow_add-at-in-loop-k c =
     let l : length c.args.places ≡ 8 = search rules in
     omega (
       arith,
-      room-first (take c.args.count c.args.widths) c.args.buffer.now c.args.at c.args.start
+      room-first (widths_in c.args.schema) c.args.buffer.now c.args.at c.args.start
           c.args.n c.args.places c.loop-k.buffer c.loop-k.due c.loop-k.k (omega (arith, c.requires.n_bound.0))
           c.requires.n_in_bounds c.loop-k.invariant (low c.args.n c.loop-k.k c.args.places c.loop-k-test.true),
     )
@@ -169,7 +169,7 @@ overflow_add-at-in-loop-k-2 c =
     let l : length c.args.places ≡ 8 = search rules in
     omega (
       arith,
-      room-first (take c.args.count c.args.widths) c.args.buffer.now c.args.at c.args.start
+      room-first (widths_in c.args.schema) c.args.buffer.now c.args.at c.args.start
           c.args.n c.args.places c.loop-k.buffer c.loop-k.due c.loop-k.k (omega (arith, c.requires.n_bound.0))
           c.requires.n_in_bounds c.loop-k.invariant (low c.args.n c.loop-k.k c.args.places c.loop-k-test.true),
     )
@@ -177,7 +177,7 @@ overflow_add-at-in-loop-k-2 c =
 pub put_word-requires-in-loop-k : goal.put_word-requires-in-loop-k
 put_word-requires-in-loop-k c =
     let l : length c.args.places ≡ 8 = search rules in
-    room-second (take c.args.count c.args.widths) c.args.buffer.now c.args.at c.args.start c.args.n
+    room-second (widths_in c.args.schema) c.args.buffer.now c.args.at c.args.start c.args.n
     c.args.places c.loop-k.buffer c.loop-k.due c.loop-k.k (omega (arith, c.requires.n_bound.0)) c.requires.n_in_bounds
     c.loop-k.invariant (low c.args.n c.loop-k.k c.args.places c.loop-k-test.true) c.put_word.new.buffer c.put_word.ensures
 
@@ -188,12 +188,12 @@ overflow_add-due c =
 pub loop-k-preserved : goal.loop-k-preserved
 loop-k-preserved c =
     let l : length c.args.places ≡ 8 = search rules in
-    goes_on (take c.args.count c.args.widths) c.args.buffer.now c.args.at c.args.start c.args.n
+    goes_on (widths_in c.args.schema) c.args.buffer.now c.args.at c.args.start c.args.n
     c.args.places c.loop-k.buffer c.loop-k.due c.loop-k.k (omega (arith, c.requires.n_bound.0)) c.requires.n_in_bounds
     c.loop-k.invariant (low c.args.n c.loop-k.k c.args.places c.loop-k-test.true) c.put_word.new.buffer c.put_word.ensures
     c.place_length-size.result
     (c.place_length-size.ensures.0
-    ∙ ap (λ (p : Place). length (put_place (take c.args.count c.args.widths) p)) (same c.args.n c.loop-k.k c.args.places c.loop-k-test.true))
+    ∙ ap (λ (p : Place). length (put_place (widths_in c.args.schema) p)) (same c.args.n c.loop-k.k c.args.places c.loop-k-test.true))
     c.place_length-size.ensures.1
     c.put_word-in-loop-k.new.buffer c.put_word-in-loop-k.ensures
 
@@ -204,6 +204,6 @@ shape_of-buffer c =
 pub returns : goal.returns
 returns c =
     let l : length c.args.places ≡ 8 = search rules in
-    ended (take c.args.count c.args.widths) c.args.buffer.now c.args.at c.args.start c.args.n
+    ended (widths_in c.args.schema) c.args.buffer.now c.args.at c.args.start c.args.n
     c.args.places c.loop-k.buffer c.loop-k.due c.loop-k.k (omega (arith, c.requires.n_bound.0)) c.loop-k.invariant
     (past c.args.n c.loop-k.k c.args.places (omega (arith, c.requires.n_bound.0)) c.loop-k-test.false)

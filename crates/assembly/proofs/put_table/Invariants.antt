@@ -5,6 +5,7 @@ use lib.ListN.{length, take, drop}
 use Rattle.query.specs.declared.Place.{Place}
 use Rattle.lists.specs.Over.{over}
 use Rattle.format.specs.File.{table_of, put_place}
+use Rattle.limits.specs.Schema.{widths_in}
 use Rattle.assembly.proofs.put_table.Given as goal
 
 -- The parts from place k on
@@ -19,4 +20,4 @@ pub record At (schema before : List ℕ) (at start n : ℕ) (places : List Place
   pub rest : over before at (table_of start (map (put_place schema) (take n places))) ≡ over buffer (at + 4 * k) (table_of due (parts_from schema places n k))
 
 abbrev pub invariant-loop-k : goal.invariant-loop-k
-invariant-loop-k l = At (take l.count l.widths) l.initial.buffer l.at l.start l.n l.fn.places l.buffer l.due l.k
+invariant-loop-k l = At (widths_in l.schema) l.initial.buffer l.at l.start l.n l.fn.places l.buffer l.due l.k

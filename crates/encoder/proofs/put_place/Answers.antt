@@ -3,35 +3,34 @@ use borrow.Author.Rules.{rules}
 use mathlib.Core.Path.{◌≡◌, refl}
 use mathlib.Core.List.{[], ◌∷◌}
 use native.Mathlib.Omega.{arith}
-use lib.ListN.{take}
 use lib.Seq.{sets-eq}
 use Rattle.query.specs.View.{as_query}
 use Rattle.query.proofs.Shape.{SizedFor}
 use Rattle.lists.proofs.Loops.{mapped-length}
 use Rattle.format.specs.Parts.{query_for}
 use Rattle.format.specs.File.{put_place}
+use Rattle.limits.specs.Schema.{widths_in}
 use Rattle.encoder.proofs.PlaceParts.{filled-part, vacant-part, filled-sizes}
 use Rattle.encoder.proofs.put_place.Goals as goal
 use Rattle.encoder.proofs.put_place.Goals.{After-from_query, Start}
 
 -- The part is that of the tableau that is made
 part : (c : goal.After-from_query)
-    → put_place (take c.args.count c.args.widths) c.args.place
-    ≡ (query_for 24 (take c.args.count c.args.widths)).put (as_query c.from_query.result)
+    → put_place (widths_in c.args.schema) c.args.place
+    ≡ (query_for 24 (widths_in c.args.schema)).put (as_query c.from_query.result)
 part c =
     let sized : SizedFor 12 c.args.place.query = record { head = search (mapped-length, rules); relations = search (mapped-length, rules); cells = search (mapped-length, rules) }
     in
-    filled-part (take c.args.count c.args.widths) c.args.place c.if-place.true c.requires.place_value
+    filled-part (widths_in c.args.schema) c.args.place c.if-place.true c.requires.place_value
     c.from_query.result c.from_query.ensures sized
 
 pub put_query-requires : goal.put_query-requires
 put_query-requires c =
     let fits =
-    filled-sizes (take c.args.count c.args.widths) c.args.place c.if-place.true c.requires.place_value
+    filled-sizes (widths_in c.args.schema) c.args.place c.if-place.true c.requires.place_value
     c.from_query.result c.from_query.ensures
     in
     record {
-      widths_value = c.requires.widths_value;
       arity_bound = (fits.0, omega (arith, fits.1));
       t_in_bounds = rw (part (goal.at.put_query-requires c).After-from_query) at c.requires.place_in_bounds;
     }
@@ -45,18 +44,18 @@ returns-then-place c = rw (part (goal.at.returns-then-place c).After-from_query)
 
 pub bounds-buffer-at : goal.bounds-buffer-at
 bounds-buffer-at c =
-    let e = vacant-part (take c.args.count c.args.widths) c.args.place c.if-place.false in
+    let e = vacant-part (widths_in c.args.schema) c.args.place c.if-place.false in
     let room = rw e at c.requires.place_in_bounds in
     omega arith
 
 pub overflow_add-result : goal.overflow_add-result
 overflow_add-result c =
-    let e = vacant-part (take c.args.count c.args.widths) c.args.place c.if-place.false in
+    let e = vacant-part (widths_in c.args.schema) c.args.place c.if-place.false in
     let room = rw e at c.requires.place_in_bounds in
     omega arith
 
 pub returns-else-place : goal.returns-else-place
 returns-else-place c =
-    let e = vacant-part (take c.args.count c.args.widths) c.args.place c.if-place.false in
+    let e = vacant-part (widths_in c.args.schema) c.args.place c.if-place.false in
     let room = rw e at c.requires.place_in_bounds in
     rw e (sets-eq (255 ∷ []) c.args.buffer.now c.args.at room, refl)

@@ -19,6 +19,7 @@ use Rattle.lists.proofs.Over.{over-length, over-over}
 use Rattle.lists.proofs.Loops.{mapped-length}
 use Rattle.format.proofs.Parts.{head_fits}
 use Rattle.format.proofs.Lengths.{length-flat_map, length-query}
+use Rattle.limits.specs.Schema.{widths_in}
 use Rattle.encoder.proofs.Stores.{length-cell, two-stores}
 use Rattle.encoder.proofs.put_query.Goals as goal
 use Rattle.encoder.proofs.put_query.Goals.{After-head_in_use-used, After-put_entries, Start}
@@ -101,20 +102,20 @@ short : (c : goal.Start) → length c.args.buffer.now < 2 ^ 63
 short c = search rules
 
 two : (c : goal.Start) → c.args.at + 2 ≤ length c.args.buffer.now
-two c = omega (arith, length-query 24 (take c.args.count c.args.widths) (as_query c.args.t), c.requires.t_in_bounds)
+two c = omega (arith, length-query 24 (widths_in c.args.schema) (as_query c.args.t), c.requires.t_in_bounds)
 
 used : (c : goal.After-head_in_use-used) → c.head_in_use-used.result ≤ 8
 used c =
     let lh : length c.args.t.head ≡ 8 = search (mapped-length, rules) in
-    used-fits (take c.args.count c.args.widths) c.args.buffer.now c.args.at (as_query c.args.t) lh
+    used-fits (widths_in c.args.schema) c.args.buffer.now c.args.at (as_query c.args.t) lh
     c.requires.arity_bound.0 c.requires.t_in_bounds c.head_in_use-used.result c.head_in_use-used.ensures
 
 rows_fit : (c : goal.After-put_entries)
     → c.args.at + 2 + 5 * c.head_in_use-used.result
-    + length (row_bytes (take c.args.count c.args.widths) (as_query c.args.t)) ≤ length c.put_entries.new.buffer
+    + length (row_bytes (widths_in c.args.schema) (as_query c.args.t)) ≤ length c.put_entries.new.buffer
 rows_fit c =
     let lh : length c.args.t.head ≡ 8 = search (mapped-length, rules) in
-    room-rows (take c.args.count c.args.widths) c.args.buffer.now c.args.at (as_query c.args.t) lh
+    room-rows (widths_in c.args.schema) c.args.buffer.now c.args.at (as_query c.args.t) lh
     c.requires.arity_bound.0 c.requires.t_in_bounds c.head_in_use-used.result c.head_in_use-used.ensures c.put_entries.new.buffer
     c.put_entries.ensures
 
@@ -125,7 +126,7 @@ rows_at c =
     omega (
       arith,
       rows_fit c,
-      second-long (take c.args.count c.args.widths) c.args.buffer.now c.args.at (as_query c.args.t)
+      second-long (widths_in c.args.schema) c.args.buffer.now c.args.at (as_query c.args.t)
           lh c.requires.arity_bound.0 c.requires.t_in_bounds c.head_in_use-used.result c.head_in_use-used.ensures
           c.put_entries.new.buffer c.put_entries.ensures,
       short,
@@ -147,13 +148,13 @@ overflow_add-at c = omega (arith, two (goal.at.overflow_add-at c).Start, short (
 pub slice_bounds-put_entries-end : goal.slice_bounds-put_entries-end
 slice_bounds-put_entries-end c =
     let lh : length c.args.t.head ≡ 8 = search (mapped-length, rules) in
-    used-inside (take c.args.count c.args.widths) c.args.buffer.now c.args.at (as_query c.args.t) lh
+    used-inside (widths_in c.args.schema) c.args.buffer.now c.args.at (as_query c.args.t) lh
     c.requires.arity_bound.0 c.requires.t_in_bounds c.head_in_use-used.result c.head_in_use-used.ensures
 
 pub put_entries-requires : goal.put_entries-requires
 put_entries-requires c =
     let lh : length c.args.t.head ≡ 8 = search (mapped-length, rules) in
-    room-head (take c.args.count c.args.widths) c.args.buffer.now c.args.at (as_query c.args.t)
+    room-head (widths_in c.args.schema) c.args.buffer.now c.args.at (as_query c.args.t)
     lh c.requires.arity_bound.0 c.requires.t_in_bounds c.head_in_use-used.result c.head_in_use-used.ensures
 
 pub overflow_add-at-2 : goal.overflow_add-at-2
@@ -183,7 +184,6 @@ put_rows-requires c =
     let ln : length c.args.t.relations ≡ 24 = search (mapped-length, rules) in
     let lc : length c.args.t.cells ≡ 192 = search (mapped-length, rules) in
     record {
-      widths_value = c.requires.widths_value;
       cells_long = (fits c.args.t.size c.args.t.relations c.args.t.cells c.requires.arity_bound.1 ln lc).1;
       rows_in_bounds = rows_fit (goal.at.put_rows-requires c).After-put_entries;
     }
@@ -191,7 +191,7 @@ put_rows-requires c =
 pub shape_of-buffer : goal.shape_of-buffer
 shape_of-buffer c =
     let lh : length c.args.t.head ≡ 8 = search (mapped-length, rules) in
-    third-long (take c.args.count c.args.widths) c.args.buffer.now c.args.at (as_query c.args.t) lh
+    third-long (widths_in c.args.schema) c.args.buffer.now c.args.at (as_query c.args.t) lh
     c.requires.arity_bound.0 c.requires.t_in_bounds c.head_in_use-used.result c.head_in_use-used.ensures
     c.put_entries.new.buffer c.put_entries.ensures c.put_rows.new.buffer
     c.put_rows.ensures.0
@@ -199,14 +199,14 @@ shape_of-buffer c =
 pub returns : goal.returns
 returns c =
     let lh : length c.args.t.head ≡ 8 = search (mapped-length, rules) in (
-      third-over (take c.args.count c.args.widths) c.args.buffer.now c.args.at (as_query c.args.t) lh
+      third-over (widths_in c.args.schema) c.args.buffer.now c.args.at (as_query c.args.t) lh
           c.requires.arity_bound.0 c.requires.t_in_bounds c.head_in_use-used.result c.head_in_use-used.ensures
           c.put_entries.new.buffer c.put_entries.ensures c.put_rows.new.buffer
           c.put_rows.ensures.0,
       omega (
         arith,
         c.put_rows.ensures.1,
-        total (take c.args.count c.args.widths) c.args.buffer.now c.args.at (as_query c.args.t) lh
+        total (widths_in c.args.schema) c.args.buffer.now c.args.at (as_query c.args.t) lh
             c.requires.arity_bound.0 c.requires.t_in_bounds c.head_in_use-used.result c.head_in_use-used.ensures,
       ),
     )

@@ -13,6 +13,8 @@ use Rattle.format.specs.Format.{byte, sequence, padded}
 use Rattle.format.specs.Parts.{entry, entries, row, no_row, chunk}
 use Rattle.format.proofs.Rules.{length-chunk}
 use Rattle.format.proofs.Lengths.{length-flat_map}
+use Rattle.limits.specs.Schema.{widths_in}
+use Rattle.encoder.proofs.PlaceParts.{wide}
 use Rattle.encoder.proofs.Stores.{length-cell, Writing, writing-starts, writing-room, writing-turns, writing-ends}
 use Rattle.encoder.proofs.put_rows.Goals as goal
 
@@ -74,24 +76,24 @@ module _ (schema before : List ℕ) (start : ℕ) (named : List ℕ) (cells : Li
 
 pub loop-r-init : goal.loop-r-init
 loop-r-init c =
-    writing-starts (row (take c.args.count c.args.widths)).put c.args.buffer.now c.args.start (chunk c.args.named.now c.args.cells.now)
+    writing-starts (row (widths_in c.args.schema)).put c.args.buffer.now c.args.start (chunk c.args.named.now c.args.cells.now)
     c.requires.rows_in_bounds
 
 pub slice_bounds-put_row-end : goal.slice_bounds-put_row-end
-slice_bounds-put_row-end c = inside (take c.args.count c.args.widths) c.args.buffer.now c.args.start c.args.named.now c.args.cells.now
+slice_bounds-put_row-end c = inside (widths_in c.args.schema) c.args.buffer.now c.args.start c.args.named.now c.args.cells.now
     c.loop-r.buffer c.loop-r.at c.loop-r.r c.loop-r-test.true c.requires.cells_long c.loop-r.invariant
-    c.width_of-width.result c.width_of-width.ensures.0 c.width_of-width.ensures.1
+    c.width_of-width.result c.width_of-width.ensures (wide c.args.schema (get_or c.args.named.now c.loop-r.r 0) c.width_of-width.result c.width_of-width.ensures)
 
 pub put_row-at-requires : goal.put_row-at-requires
-put_row-at-requires c = line-fits (take c.args.count c.args.widths) c.args.buffer.now c.args.start c.args.named.now c.args.cells.now
+put_row-at-requires c = line-fits (widths_in c.args.schema) c.args.buffer.now c.args.start c.args.named.now c.args.cells.now
     c.loop-r.buffer c.loop-r.at c.loop-r.r c.loop-r-test.true c.requires.cells_long c.loop-r.invariant
-    c.width_of-width.result c.width_of-width.ensures.0 c.width_of-width.ensures.1
+    c.width_of-width.result c.width_of-width.ensures (wide c.args.schema (get_or c.args.named.now c.loop-r.r 0) c.width_of-width.result c.width_of-width.ensures)
 
 pub loop-r-preserved : goal.loop-r-preserved
 loop-r-preserved c =
-    goes_on (take c.args.count c.args.widths) c.args.buffer.now c.args.start c.args.named.now c.args.cells.now
+    goes_on (widths_in c.args.schema) c.args.buffer.now c.args.start c.args.named.now c.args.cells.now
     c.loop-r.buffer c.loop-r.at c.loop-r.r c.loop-r-test.true c.requires.cells_long c.loop-r.invariant
-    c.width_of-width.result c.width_of-width.ensures.0 c.width_of-width.ensures.1
+    c.width_of-width.result c.width_of-width.ensures (wide c.args.schema (get_or c.args.named.now c.loop-r.r 0) c.width_of-width.result c.width_of-width.ensures)
     c.put_row-at.new.buffer c.put_row-at.result c.put_row-at.ensures.0 c.put_row-at.ensures.1
 
 pub shape_of-buffer : goal.shape_of-buffer

@@ -1,12 +1,12 @@
 use borrow.Author.Rules.{rules}
 use Prim.Native.Nat.{◌≤◌}
 use native.Mathlib.Omega.{arith}
-use lib.ListN.{take}
 use Rattle.query.specs.View.{as_query}
 use Rattle.query.proofs.Shape.{SizedFor}
 use Rattle.format.proofs.Parts.{head_fits}
 use Rattle.format.proofs.Rules.{good-narrow}
 use Rattle.lists.proofs.Loops.{mapped-length}
+use Rattle.limits.specs.Schema.{widths_in}
 use Rattle.encoder.proofs.PlaceParts.{query-exact}
 use lib.ListN.{length-take}
 use Rattle.encoder.proofs.query_length.Goals as goal
@@ -24,7 +24,7 @@ slice_bounds-rows_length-end c = omega (arith, (sized (goal.at.slice_bounds-rows
 
 pub rows_length-rows-requires : goal.rows_length-rows-requires
 rows_length-rows-requires c =
-    record { widths_value = c.requires.widths_value; few = omega (arith, length-take c.args.t.size c.args.t.relations, c.requires.arity_bound.1) }
+    record { few = omega (arith, length-take c.args.t.size c.args.t.relations, c.requires.arity_bound.1) }
 
 pub overflow_mul-result : goal.overflow_mul-result
 overflow_mul-result c = omega (arith, used (goal.at.overflow_mul-result c).After-head_in_use-used)
@@ -37,9 +37,9 @@ overflow_add-result-2 c = omega (arith, used (goal.at.overflow_add-result-2 c).A
 
 pub returns : goal.returns
 returns c =
-    let schema = take c.args.count c.args.widths in
+    let schema = widths_in c.args.schema in
     let head = c.head_in_use-used in (
-      query-exact schema (good-narrow c.args.count c.args.widths c.requires.widths_value) 24 (as_query c.args.t) head.result
+      query-exact schema (good-narrow c.args.schema.relations c.args.schema.widths c.args.schema.good) 24 (as_query c.args.t) head.result
           c.rows_length-rows.result (sized (goal.at.returns c).Start) head.ensures (used (goal.at.returns c).After-head_in_use-used) c.rows_length-rows.ensures.0,
       omega (arith, used (goal.at.returns c).After-head_in_use-used, c.rows_length-rows.ensures.1, length-take c.args.t.size c.args.t.relations),
     )

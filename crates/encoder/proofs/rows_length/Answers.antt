@@ -1,8 +1,10 @@
 -- The bytes of the rows so far, and of those that are left
-use Rattle.std.proofs.Common.{◌≡◌, ℕ, ◌+◌, ◌*◌, ◌≤◌, ◌<◌, List, length, take, drop, get_or, arith, add-one, drop-cons}
+use Rattle.std.proofs.Common.{◌≡◌, ℕ, ◌+◌, ◌*◌, ◌≤◌, ◌<◌, List, length, drop, get_or, arith, add-one, drop-cons}
 use native.Mathlib.Nat.{zero-add}
 use lib.ListN.{drop_of_length-le}
+use Rattle.limits.specs.Schema.{widths_in}
 use Rattle.encoder.specs.internal.Lengths.{rows_length}
+use Rattle.encoder.proofs.PlaceParts.{wide}
 use Rattle.encoder.proofs.rows_length.Goals as goal
 
 next : (schema named : List ℕ) (r : ℕ) → r < length named
@@ -19,10 +21,11 @@ loop-relation-init c = (omega arith, rw zero-add)
 
 pub loop-relation-preserved : goal.loop-relation-preserved
 loop-relation-preserved c =
-    let e = next (take c.args.count c.args.widths) c.args.named.now c.loop-relation.relation-index c.loop-relation-test.true in
-    (omega (arith, c.width_of.ensures.1), omega (arith, e, c.width_of.ensures.0, c.loop-relation.invariant.1))
+    let e = next (widths_in c.args.schema) c.args.named.now c.loop-relation.relation-index c.loop-relation-test.true in
+    let bound = wide c.args.schema (get_or c.args.named.now c.loop-relation.relation-index 0) c.width_of.result c.width_of.ensures in
+    (omega (arith, bound), omega (arith, e, c.width_of.ensures, c.loop-relation.invariant.1))
 
 pub returns : goal.returns
 returns c =
-    let e = none_left (take c.args.count c.args.widths) c.args.named.now c.loop-relation.relation-index c.loop-relation-test.false in
+    let e = none_left (widths_in c.args.schema) c.args.named.now c.loop-relation.relation-index c.loop-relation-test.false in
     (omega (arith, e, c.loop-relation.invariant.1), omega arith)

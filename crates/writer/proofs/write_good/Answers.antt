@@ -95,7 +95,7 @@ whole : (c : goal.After-places_length-others) → size c ≡ length (file_of c.a
 whole c =
     let k = known c in
     (lengths c.args.given c.requires k.widths-long k.list-long c.up_to_filled-n.result c.up_to_filled-n.ensures.0 k.held c.joins_length.result
-    c.places_length-others.result c.joins_length.ensures.0 c.places_length-others.ensures.0).1
+    c.places_length-others.result c.joins_length.ensures.0 (rw c.schema-schema.ensures.value at c.places_length-others.ensures).0).1
 
 -- ---- the needs
 pub overflow_cast-first : goal.overflow_cast-first
@@ -124,7 +124,7 @@ overflow_add-second-2 c = omega (arith, few-held (goal.at.overflow_add-second-2 
 pub places_length-others-requires : goal.places_length-others-requires
 places_length-others-requires c =
     let good = good-record c.args.given c.requires in
-    record { widths_value = good.relations; places_value = good.places; n_bound = c.up_to_filled-n.ensures.1 }
+    record { places_value = rw c.schema-schema.ensures.value good.places; n_bound = c.up_to_filled-n.ensures.1 }
 
 pub overflow_add-size : goal.overflow_add-size
 overflow_add-size c = omega (arith, c.up_to_filled-n.ensures.1)
@@ -156,7 +156,7 @@ overflow_add-size-5 c =
       counts (goal.at.overflow_add-size-5 c).Start,
       few-held (goal.at.overflow_add-size-5 c).Start,
       c.joins_length.ensures.1,
-      c.places_length-others.ensures.1,
+      (rw c.schema-schema.ensures.value at c.places_length-others.ensures).1,
     )
 
 pub returns-then-buffer-size : goal.returns-then-buffer-size
@@ -169,8 +169,7 @@ put_directory-requires c =
     let start' = (goal.at.put_directory-requires c).Start in
     let good = good-record c.args.given c.requires in
     record {
-      widths_value = good.relations;
-      places_value = good.places;
+      places_value = rw c.schema-schema.ensures.value good.places;
       n_bound =
           (c.up_to_filled-n.ensures.1, omega (arith, counts start'), omega (arith, few-held start', c.joins_length.ensures.1));
       n_in_bounds = omega (arith, c.if-buffer-size.false);
@@ -192,10 +191,10 @@ put_parts-requires c =
     let k = known (goal.at.put_parts-requires c).After-places_length-others in
     let run =
     first_run r c.requires k.widths-long k.list-long n c.up_to_filled-n.ensures.0 k.held c.joins_length.result c.places_length-others.result
-    c.joins_length.ensures.0 c.places_length-others.ensures.0 c.args.buffer.now c.if-buffer-size.false c.put_directory.new.buffer c.put_directory.ensures in
+    c.joins_length.ensures.0 (rw c.schema-schema.ensures.value at c.places_length-others.ensures).0 c.args.buffer.now c.if-buffer-size.false c.put_directory.new.buffer (rw c.schema-schema.ensures.value at c.put_directory.ensures) in
     let l =
     parts r c.requires k.widths-long k.list-long n c.up_to_filled-n.ensures.0 k.held c.joins_length.result c.places_length-others.result
-    c.joins_length.ensures.0 c.places_length-others.ensures.0 in
+    c.joins_length.ensures.0 (rw c.schema-schema.ensures.value at c.places_length-others.ensures).0 in
     record { given_value = c.requires; n_bound = c.up_to_filled-n.ensures.1; n_in_bounds = omega (arith, run.long, l, c.if-buffer-size.false) }
 
 -- The directory and the parts are written
@@ -213,8 +212,8 @@ ran c =
     let lw : length c.args.given.widths ≡ 8 = search (mapped-length, rules) in
     let ld : length c.args.given.dependencies ≡ 32 = search (mapped-length, rules) in
     second_run r c.requires lw ld c.up_to_filled-n.result c.up_to_filled-n.ensures.0 (rw lp c.up_to_filled-n.ensures.1) c.joins_length.result
-    c.places_length-others.result c.joins_length.ensures.0 c.places_length-others.ensures.0 c.args.buffer.now c.if-buffer-size.false
-    c.put_directory.new.buffer c.put_directory.ensures c.put_parts.new.buffer c.put_parts.ensures
+    c.places_length-others.result c.joins_length.ensures.0 (rw c.schema-schema.ensures.value at c.places_length-others.ensures).0 c.args.buffer.now c.if-buffer-size.false
+    c.put_directory.new.buffer (rw c.schema-schema.ensures.value at c.put_directory.ensures) c.put_parts.new.buffer c.put_parts.ensures
 
 pub shape_of-buffer : goal.shape_of-buffer
 shape_of-buffer c = (ran (goal.at.shape_of-buffer c).After-put_parts).long
