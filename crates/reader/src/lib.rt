@@ -66,9 +66,8 @@ fn read_parts(file: &[u8], n: usize) -> Result<Record, Refusal>
     ensures { reply_of result ≡ read_all (stretches n file.now (drop 2 file.now)) }
 {
     let schema = read_relations(part(file, 0)).ok_or(Refusal::BadRelations)?;
-    let ((held, dependencies), rest) = read_dependencies(part(file, 1), schema).ok_or(
-        Refusal::BadDependency,
-    )?;
+    let functional = read_dependencies(part(file, 1), schema).ok_or(Refusal::BadDependency)?;
+    let ((held, dependencies), rest) = functional;
     let (joined, joins) = read_joins(rest, schema).ok_or(Refusal::BadJoin)?;
     let places = read_places(file, n, schema)?;
     let widths = schema.widths;

@@ -190,14 +190,14 @@ pub part-requires-2-clause-file_in_bounds : goal.part-requires-2-clause-file_in_
 part-requires-2-clause-file_in_bounds c =
     stretch-fits c.args.file.now c.args.n (2 + 4 * c.args.n) 1 (omega (arith, c.requires.le_n.0)) c.requires.file_value
 
-pub returns-in_err-held : goal.returns-in_err-held
-returns-in_err-held c =
-    let left = err_from_is_err_and c.from_residual-in_err-held.result c.from_residual-in_err-held.ensures.1 in
+pub returns-in_err-functional : goal.returns-in_err-functional
+returns-in_err-functional c =
+    let left = err_from_is_err_and c.from_residual-in_err-functional.result c.from_residual-in_err-functional.ensures.1 in
     rw (left.1, left.2)
     (refuses-dependencies c.args.file.now c.args.n c.requires.le_n.0 c.part.result.now c.part.ensures c.read_relations.result c.read_relations.ensures
     c.in_ok-schema.schema (sym c.ok_or.ensures.value ∙ c.in_ok-schema.was) c.part-2.result.now c.part-2.ensures
     c.read_dependencies.result c.read_dependencies.ensures
-    c.in_err-held.field-0.0 (sym c.ok_or-2.ensures.value ∙ c.in_err-held.was))
+    c.in_err-functional.field-0.0 (sym c.ok_or-2.ensures.value ∙ c.in_err-functional.was))
 
 pub returns-in_err-joined : goal.returns-in_err-joined
 returns-in_err-joined c =
@@ -206,7 +206,7 @@ returns-in_err-joined c =
     (refuses-joins c.args.file.now c.args.n c.requires.le_n.0 c.part.result.now c.part.ensures c.read_relations.result c.read_relations.ensures
     c.in_ok-schema.schema (sym c.ok_or.ensures.value ∙ c.in_ok-schema.was) c.part-2.result.now c.part-2.ensures
     c.read_dependencies.result c.read_dependencies.ensures
-    (c.in_ok-held.held, c.in_ok-held.dependencies) c.in_ok-held.rest (sym c.ok_or-2.ensures.value ∙ c.in_ok-held.was)
+    c.in_ok-functional.functional.0 c.in_ok-functional.functional.1 (sym c.ok_or-2.ensures.value ∙ c.in_ok-functional.was)
     c.read_joins.result c.read_joins.ensures c.in_err-joined.field-0.0 (sym c.ok_or-3.ensures.value ∙ c.in_err-joined.was))
 
 pub returns-in_err-places : goal.returns-in_err-places
@@ -216,7 +216,7 @@ returns-in_err-places c =
     (refuses-places c.args.file.now c.args.n c.requires.le_n.0 c.part.result.now c.part.ensures c.read_relations.result c.read_relations.ensures
     c.in_ok-schema.schema (sym c.ok_or.ensures.value ∙ c.in_ok-schema.was) c.part-2.result.now c.part-2.ensures
     c.read_dependencies.result c.read_dependencies.ensures
-    (c.in_ok-held.held, c.in_ok-held.dependencies) c.in_ok-held.rest (sym c.ok_or-2.ensures.value ∙ c.in_ok-held.was)
+    c.in_ok-functional.functional.0 c.in_ok-functional.functional.1 (sym c.ok_or-2.ensures.value ∙ c.in_ok-functional.was)
     c.read_joins.result c.read_joins.ensures (c.in_ok-joined.joined, c.in_ok-joined.joins) (sym c.ok_or-3.ensures.value ∙ c.in_ok-joined.was)
     c.read_places.result c.read_places.ensures c.in_err-places.field-0.0 c.in_err-places.was)
 
@@ -225,6 +225,6 @@ returns c =
     reads c.args.file.now c.args.n c.requires.le_n.0 c.part.result.now c.part.ensures c.read_relations.result c.read_relations.ensures
     c.in_ok-schema.schema (sym c.ok_or.ensures.value ∙ c.in_ok-schema.was) c.part-2.result.now c.part-2.ensures
     c.read_dependencies.result c.read_dependencies.ensures
-    (c.in_ok-held.held, c.in_ok-held.dependencies) c.in_ok-held.rest (sym c.ok_or-2.ensures.value ∙ c.in_ok-held.was)
+    c.in_ok-functional.functional.0 c.in_ok-functional.functional.1 (sym c.ok_or-2.ensures.value ∙ c.in_ok-functional.was)
     c.read_joins.result c.read_joins.ensures (c.in_ok-joined.joined, c.in_ok-joined.joins) (sym c.ok_or-3.ensures.value ∙ c.in_ok-joined.was)
     c.read_places.result c.read_places.ensures c.in_ok-places.places c.in_ok-places.was
