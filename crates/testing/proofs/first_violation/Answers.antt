@@ -8,9 +8,9 @@ use lib.ListN.{length, drop, get_or, drop_of_length-le}
 use Rattle.theory.specs.Database as database
 use Rattle.query.specs.View.{dependency_of}
 use Rattle.query.specs.declared.Dependency.{Dependency}
-use Rattle.std.specs.Prelude.{Option}
+use Rattle.std.specs.Prelude.{Option, None}
 use Rattle.words.specs.Words.{database_of}
-use Rattle.words.specs.Testing.{first_broken_from}
+use Rattle.words.specs.Testing.{first_pair_from, first_broken_from}
 use Rattle.words.specs.internal.Found.{pair_of}
 use Rattle.words.specs.Broken.{violation_of}
 use Rattle.query.specs.Rule.{no_dependency}
@@ -21,7 +21,7 @@ use borrow.Author.Rules.{rules}
 use Rattle.testing.specs.internal.Keyed.{Keyed}
 use Rattle.testing.proofs.Superkeys.{key-none, keyed-none, keyed-more}
 use Rattle.testing.proofs.first_violation.Goals as goal
-use Rattle.testing.proofs.first_violation.Goals.{In-loop-k, then-tested, else-tested}
+use Rattle.testing.proofs.first_violation.Goals.{In-loop-k, in-Nothing, in-Distinct}
 
 -- Those from dependency k on are dependency k and the later ones
 drop-more : (ds : List Dependency) (k : ℕ) → k < length ds → drop k ds ≡ get_or ds k no_dependency ∷ drop (k + 1) ds
@@ -59,15 +59,15 @@ loop-k-preserved-then-has_key c =
       l.invariant.3,
     )
 
-pub returns-in-Some : goal.returns-in-Some
-returns-in-Some c =
-    let i = (goal.at.returns-in-Some c).In-loop-k in
+pub returns-in-Found : goal.returns-in-Found
+returns-in-Found c =
+    let i = (goal.at.returns-in-Found c).In-loop-k in
     let a = i.args in
     let k = i.loop-k.k in
     sym (ap violation_of (onward i)
     ∙ violation-found (database_of a.schema.now a.words.now) (dependency_of (get_or a.dependencies.now k no_dependency))
-    (map dependency_of (drop (k + 1) a.dependencies.now)) k c.in-Some.first c.in-Some.second
-    (sym c.in-Some.is ∙ c.first_pair-tested.ensures.pair_value))
+    (map dependency_of (drop (k + 1) a.dependencies.now)) k c.in-Found.first c.in-Found.second
+    c.in-Found.ensures)
 
 pub loop-k-preserved : goal.loop-k-preserved
 loop-k-preserved c =
@@ -78,18 +78,18 @@ loop-k-preserved c =
     let d = get_or a.dependencies.now l.k no_dependency in
     let size : length l.keys ≡ 32 = search rules in
     let room : l.k < length l.keys = omega (arith, c.requires.held_bound, c.loop-k-test.true) in
-    let keyed : Keyed D c.if-tested.keys =
-    elim c.if-tested.branch [
-      | then-tested w ↦ subst (λ (x : List (Option Dependency)). Keyed D x) (sym w.keys-is)
-          (keyed-more D l.keys l.k d room l.invariant.1 (c.first_pair-tested.ensures.key w.if-tested.true))
-      | else-tested w ↦ subst (λ (x : List (Option Dependency)). Keyed D x) (sym w.keys-is) l.invariant.1
+    let both : (None ≡ pair_of (first_pair_from (dependency_of d) 0 D)) × Keyed D c.match-first_pair.keys =
+    elim c.match-first_pair.branch [
+      | in-Nothing w ↦ (w.in-Nothing.ensures, subst (λ (x : List (Option Dependency)). Keyed D x) (sym w.keys-is) l.invariant.1)
+      | in-Distinct w ↦ (
+        w.in-Distinct.ensures.0,
+        subst (λ (x : List (Option Dependency)). Keyed D x) (sym w.keys-is) (keyed-more D l.keys l.k d room l.invariant.1 w.in-Distinct.ensures.1),
+      )
     ] in (
-      onward i
-          ∙ violation-later D (dependency_of d) (map dependency_of (drop (l.k + 1) a.dependencies.now)) l.k
-          (sym c.in_default.is ∙ c.first_pair-tested.ensures.pair_value),
-      keyed,
-      c.first_pair-tested.auto.nodes ∙ l.invariant.2,
-      c.first_pair-tested.auto.heads ∙ l.invariant.3,
+      onward i ∙ violation-later D (dependency_of d) (map dependency_of (drop (l.k + 1) a.dependencies.now)) l.k both.0,
+      both.1,
+      c.first_pair.auto.nodes ∙ l.invariant.2,
+      c.first_pair.auto.heads ∙ l.invariant.3,
     )
 
 pub returns : goal.returns
