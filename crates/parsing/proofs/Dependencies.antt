@@ -6,7 +6,8 @@ use Prim.Native.Nat.{ℕ, ◌+◌, ◌-◌, ◌≤◌, ◌<◌}
 use native.Mathlib.Nat.{add-zero}
 use lib.ListN.{length, get_or, drop, length-drop}
 use lib.Seq.{get_or-drop}
-use borrow.Author.Tests.{le-leb, lt-leb}
+use borrow.Author.Tests.{le-leb, lt-leb, leb-true}
+use Rattle.lists.proofs.Tests.{and_left}
 use Rattle.query.specs.Rule.{good_dependency}
 use Rattle.format.specs.Format.{got, got_if}
 use Rattle.format.specs.Parts.{dependency, dependency_at}
@@ -53,3 +54,10 @@ pub dependency-read : (schema bytes : List ℕ) (d : Dependency) → Some d ≡ 
     → (dependency schema).get bytes ≡ got d (drop 3 bytes)
 unfolding dependency
 dependency-read schema bytes d h = (got_if-value (leb 3 (length bytes) && good_dependency schema (dependency_at bytes)) (dependency_at bytes) d (drop 3 bytes) h).2
+
+pub dependency_long : (schema bytes : List ℕ) (d : Dependency) → Some d ≡ value_read ((dependency schema).get bytes) → 3 ≤ length bytes
+unfolding dependency
+dependency_long schema bytes d h =
+    let good : Bool = good_dependency schema (dependency_at bytes) in
+    let (t, _, _) = got_if-value (leb 3 (length bytes) && good) (dependency_at bytes) d (drop 3 bytes) h in
+    leb-true 3 (length bytes) (and_left (leb 3 (length bytes)) good t)

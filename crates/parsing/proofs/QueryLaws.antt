@@ -1,16 +1,15 @@
 -- A query part: what the readings of its pieces say of the whole part.
 use mathlib.Core.Path.{◌≡◌, refl, ap, ◌∙◌}
 use mathlib.Core.Bool.{cond}
-use mathlib.Core.List.{List, map}
+use mathlib.Core.List.{List}
 use Prim.Native.Nat.{ℕ}
 use lib.Dec.{eqb, leb}
-use lib.ListN.{length, drop}
+use lib.ListN.{drop}
 use Rattle.query.specs.declared.Cell.{Cell}
 use Rattle.format.specs.Format.{Reading, none, got, map_reading, Format, get_byte, byte, sequence, via}
-use Rattle.format.specs.Parts.{entries, rows, flat, query_with, query_for, query}
-use Rattle.parsing.specs.declared.RowsRead.{RowsRead}
-use Rattle.std.proofs.Common.{None, Some}
-use Rattle.parsing.specs.internal.Read.{rows_read}
+use Rattle.format.specs.Parts.{entries, rows, query_with, query_for, query}
+use Rattle.format.proofs.Formats.{not-got}
+use Rattle.parsing.specs.internal.Read.{stored_rows}
 use Rattle.parsing.proofs.Counted.{sequence-none, sequence-got}
 
 pub map-none : {A B : Type 0} (f : A → B) (o : Reading A) → o ≡ none → map_reading f o ≡ none
@@ -68,28 +67,7 @@ module _ (schema part : List ℕ) where
 
 -- ---- the answer of the rows' reader
 
-pub rows-none : (o : Reading (List (ℕ × List Cell))) → None ≡ rows_read o → o ≡ none
+pub rows-none : (o : Reading (List (ℕ × List Cell))) → none ≡ map_reading stored_rows o → o ≡ none
+unfolding map_reading
 rows-none none e = refl
-rows-none (got rs rest) e = cc
-
--- What the rows that were read are, and the bytes after them
-pub record SomeRows (o : Reading (List (ℕ × List Cell))) (r : RowsRead) : Type 0 where
-  pub all : List (ℕ × List Cell)
-  pub rest : List ℕ
-  pub reading : o ≡ got all rest
-  pub whole : r.whole ≡ eqb (length rest) 0
-  pub relations : r.relations ≡ map (λ r. r.0) all
-  pub cells : r.cells ≡ flat all
-
-pub rows-some : (o : Reading (List (ℕ × List Cell))) (r : RowsRead) → Some r ≡ rows_read o → SomeRows o r
-rows-some none r e = cc
-rows-some (got rs rest) r e =
-    let is : r ≡ record { whole = eqb (length rest) 0; relations = map (λ r. r.0) rs; cells = flat rs } = cc in
-    record {
-      all = rs;
-      rest = rest;
-      reading = refl;
-      whole = ap (λ (r : RowsRead). r.whole) is;
-      relations = ap (λ (r : RowsRead). r.relations) is;
-      cells = ap (λ (r : RowsRead). r.cells) is;
-    }
+rows-none (got rs rest) e = absurd (not-got e)

@@ -1,28 +1,26 @@
 -- A loop that reads rows into flat arrays, entry by entry: what has been read of all rows, and of the row at hand.
 use mathlib.Core.Path.{◌≡◌, sym, ap, refl, ◌∙◌}
-use mathlib.Core.Bool.{Bool, true, false}
+use mathlib.Core.Bool.{true}
 use mathlib.Core.List.{List}
 use Prim.Native.Nat.{ℕ, ◌+◌, ◌*◌, ◌-◌, ◌^◌, ◌≤◌, ◌<◌}
 use native.Mathlib.Nat.{add-zero}
 use native.Mathlib.Omega.{arith}
 use borrow.Author.Rules.{rules}
-use borrow.Author.Tests.{leb-true, leb-false, eq-eqb, ne_eqb}
 use mir.Syntax.{w8, w64}
 use mir.Val.{Fits}
-use lib.Dec.{eqb, leb}
-use lib.ListN.{length, take, drop, get_or, set, replicate, length-set, length-drop}
+use lib.ListN.{length, take, drop, get_or, set, replicate, length-set}
 use lib.Seq.{take_all, drop-drop, get_or-take, length-take-le}
 use Rattle.query.specs.declared.Cell.{Cell}
 use Rattle.query.specs.Rule.{no_cell, good_relations}
 use Rattle.lists.specs.Over.{over}
-use Rattle.format.specs.Format.{Reading, none, got, padded}
+use Rattle.format.specs.Format.{Reading, none, got, map_reading, padded}
 use Rattle.format.specs.Parts.{entry, entries, row, no_row, rows, chunk, flat}
 use Rattle.lists.proofs.Loops.{replicate-drop}
 use Rattle.format.proofs.Parts.{Narrow, map-chunk, flat-chunk}
 use Rattle.format.proofs.Rules.{length-chunk}
 use Rattle.query.proofs.Relations.{relations-bounds, width-le}
 use Rattle.std.proofs.Common.{Option, None, Some}
-use Rattle.parsing.specs.internal.Read.{value_read, rows_read}
+use Rattle.parsing.specs.internal.Read.{value_read, stored_rows}
 use Rattle.parsing.proofs.Values.{value-none}
 use Rattle.parsing.proofs.Positions.{entry-read}
 use Rattle.format.proofs.Filling.{Filling, filling-starts, filling-turns, filling-fails, filling-ends}
@@ -88,29 +86,23 @@ begins schema part start size h =
       reading = filling-starts (row schema).get 12 no_row size (drop start part);
     }
 
--- whether a position is past the last byte
-at-end : (part : List ℕ) (at : ℕ) → leb (length part) at ≡ eqb (length (drop at part)) 0
-at-end part at = rw length-drop (go (leb (length part) at) refl)
-  where
-    go : (t : Bool) → leb (length part) at ≡ t → t ≡ eqb (length part - at) 0
-    go true e = sym (eq-eqb (length part - at) 0 (let l = leb-true (length part) at e in omega arith))
-    go false e = sym (ne_eqb (length part - at) 0 (λ z. let l = leb-false (length part) at e in omega arith))
-
 module _ (schema part : List ℕ) (start size : ℕ) (relations : List ℕ) (cells : List Cell) (at r : ℕ) (f : At schema part start size relations cells at r) where
   -- a row that can't be read
-  pub fails : r < size → (row schema).get (drop at part) ≡ none → None ≡ rows_read (Rows schema part start size)
-  fails h e = sym (ap rows_read (filling-fails f.reading h e))
+  pub fails : r < size → (row schema).get (drop at part) ≡ none → none ≡ map_reading stored_rows (Rows schema part start size)
+  unfolding map_reading
+  fails h e = rw (filling-fails f.reading h e)
 
   -- all of them are read
-  pub accepted : size ≤ r → Some (record { whole = leb (length part) at; relations = relations; cells = cells }) ≡ rows_read (Rows schema part start size)
-  accepted h =
+  pub accepted : size ≤ r → (rest : List ℕ) → rest ≡ drop at part
+      → got (record { relations = relations; cells = cells }) rest ≡ map_reading stored_rows (Rows schema part start size)
+  unfolding map_reading
+  accepted h rest er =
       let w : Rows schema part start size ≡ got (chunk relations cells) (drop at part) = filling-ends f.reading h in
       let e : cells ≡ flat (chunk relations cells) =
       sym (flat-chunk relations cells ∙ take_all (8 * length relations) cells (omega (arith, f.cells-long, f.relations-long))) in
-      let same : Some (record { whole = leb (length part) at; relations = relations; cells = cells })
-      ≡ rows_read (got (chunk relations cells) (drop at part)) =
-      λ i. Some (record { whole = at-end part at i; relations = sym (map-chunk relations cells) i; cells = e i }) in
-      same ∙ sym (ap rows_read w)
+      let same : got (record { relations = relations; cells = cells }) rest ≡ map_reading stored_rows (got (chunk relations cells) (drop at part)) =
+      λ i. got (record { relations = sym (map-chunk relations cells) i; cells = e i }) (er i) in
+      same ∙ sym (ap (map_reading stored_rows) w)
 
   pub row-begins : (width : ℕ) → Known schema part at width → r < 12 → InRow schema part at r width cells cells 0
   unfolding entries padded

@@ -1,7 +1,8 @@
 -- What the answer of a reader says of the format's reading.
 use Rattle.std.proofs.Common.{◌≡◌, refl, ap, Bool, true, false, List, ℕ, None, Some}
 use Rattle.format.specs.Format.{Reading, none, got, got_if}
-use Rattle.parsing.specs.internal.Read.{value_read}
+use Rattle.refusals.specs.Refusals.{Reply, gives, refused}
+use Rattle.parsing.specs.internal.Read.{value_read, value_given}
 
 pub value-none : {A : Type 0} (o : Reading A) → None ≡ value_read o → o ≡ none
 value-none none h = refl
@@ -15,3 +16,11 @@ pub got_if-value : {A : Type 0} (t : Bool) (a b : A) (rest : List ℕ) → Some 
 unfolding got_if
 got_if-value true a b rest h = let e : a ≡ b = cc in (refl, e, ap (λ c. got c rest) e)
 got_if-value false a b rest h = cc
+
+pub reply-bad : {A : Type 0} (o : Reply A) → None ≡ value_given o → (n : ℕ) × (o ≡ refused n)
+reply-bad (gives a) e = cc
+reply-bad (refused n) e = (n, refl)
+
+pub reply-some : {A : Type 0} (o : Reply A) (a : A) → Some a ≡ value_given o → o ≡ gives a
+reply-some (gives b) a e = let same : b ≡ a = cc in ap (λ c. gives c) same
+reply-some (refused n) a e = cc

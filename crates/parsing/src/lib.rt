@@ -5,14 +5,15 @@
 ghost use Rattle.std.specs.Prelude.{◌≡◌, true, ◌+◌, ◌≤◌, ◌<◌, length, take, drop};
 ghost use Rattle.lists.specs.Tests.{between};
 ghost use Rattle.lists.specs.Over.{pad};
-ghost use Rattle.query.specs.Rule.{good_relations};
+ghost use Rattle.limits.specs.Schema.{widths_in};
 ghost use Rattle.refusals.specs.Refusals.{bad_relations};
 ghost use Rattle.format.specs.Bytes.{number};
-ghost use Rattle.format.specs.Format.{get_byte};
+ghost use Rattle.format.specs.Format.{get_byte, map_reading};
 ghost use Rattle.format.specs.Parts.{entry, entries, rows, query, relations, dependency, dependencies, join};
 ghost use Rattle.format.specs.File.{complete, read_joins};
-ghost use Rattle.parsing.specs.internal.Read.{value_read, value_given, rows_read, query_read};
+ghost use Rattle.parsing.specs.internal.Read.{value_read, value_given, reading_of, relations_in, stored_rows};
 
+use limits::schema::Schema;
 use query::{
     Cell, Dependency, Entry, JoinDependency, NO_CELL, NO_DEPENDENCY, NO_JOIN_DEPENDENCY, Query,
 };
@@ -83,20 +84,19 @@ fn read_entries(s: &[u8], at: usize, n: usize) -> Option<[Cell; 8]>
 
 // ---- rows
 
-// The relations and cells of some rows, and whether the part ends with them.
+// The relations and cells of some rows.
 #[derive(Clone, Copy)]
-pub struct RowsRead {
-    pub whole: bool,
+pub struct StoredRows {
     pub relations: [u8; 12],
     pub cells: [Cell; 96],
 }
 
-// The rows from a position on: for each the relation byte and one entry a column, which are stored where they belong.
-fn read_rows(part: &[u8], start: usize, size: usize, count: u8, widths: [u8; 8]) -> Option<RowsRead>
-    requires widths_value { good_relations count widths ≡ true }
+// The rows from a position on, and the bytes after them: for each the relation byte and one entry a column, which are stored where they belong.
+// Kept as it is: r and i give the position that is read, the cell and the relation's slot, and `?` leaves the loops.
+fn read_rows(part: &[u8], start: usize, size: usize, schema: Schema) -> Option<(StoredRows, &[u8])>
     requires start_in_bounds { start ≤ length part.now }
     requires size_bound { size ≤ 12 }
-    ensures { result ≡ rows_read ((rows 12 (take count widths) size).get (drop start part.now)) }
+    ensures { reading_of result ≡ map_reading stored_rows ((rows 12 (widths_in schema) size).get (drop start part.now)) }
 {
     let mut relations = [0; 12];
     let mut cells = [NO_CELL; 96];
@@ -106,46 +106,32 @@ fn read_rows(part: &[u8], start: usize, size: usize, count: u8, widths: [u8; 8])
             return None;
         }
         let relation = part[at];
-        if count <= relation {
+        if schema.relations <= relation {
             return None;
         }
-        let width = widths[relation as usize] as usize;
+        let width = schema.widths[relation as usize] as usize;
         for i in 0..width {
             cells[8 * r + i] = read_entry(part, at + 1 + 5 * i)?;
         }
         relations[r] = relation;
         at = at + 1 + 5 * width;
     }
-    Some(RowsRead {
-        whole: part.len() <= at,
-        relations,
-        cells,
-    })
+    let rest = &part[at..];
+    Some((StoredRows { relations, cells }, rest))
 }
 
 // ---- query parts
 
-// A query, and whether the part ends with it.
-#[derive(Clone, Copy)]
-pub struct QueryRead {
-    pub whole: bool,
-    pub query: Query,
-}
-
-// The query at the start of a part: head length, row count, head entries, then rows.
-pub fn read_query(part: &[u8], count: u8, widths: [u8; 8]) -> Option<QueryRead>
-    requires { good_relations count widths ≡ true }
-    ensures { result ≡ query_read ((query (take count widths)).get part.now) }
+// The query at the start of a part, and the bytes after it: head length, row count, head entries, then rows.
+pub fn read_query(part: &[u8], schema: Schema) -> Option<(Query, &[u8])>
+    ensures { reading_of result ≡ (query (widths_in schema)).get part.now }
 {
     let arity = read_byte(part, 0, 0, 8)?;
     let size = read_byte(part, 1, 0, 12)?;
     let used = limits::head_in_use(arity, size);
     let head = read_entries(part, 2, used)?;
-    let RowsRead {
-        whole,
-        relations,
-        cells,
-    } = read_rows(part, 2 + 5 * used, size as usize, count, widths)?;
+    let (rows, rest) = read_rows(part, 2 + 5 * used, size as usize, schema)?;
+    let StoredRows { relations, cells } = rows;
     let query = Query {
         arity,
         size,
@@ -153,14 +139,14 @@ pub fn read_query(part: &[u8], count: u8, widths: [u8; 8]) -> Option<QueryRead>
         relations,
         cells,
     };
-    Some(QueryRead { whole, query })
+    Some((query, rest))
 }
 
 // ---- part 0: relations
 
 // Part 0: the count of relations, then a width byte each. A part that is too short or has a bad byte is told in the loop, one that is too long after it.
-pub fn read_relations(part: &[u8]) -> Option<(u8, [u8; 8])>
-    ensures { result ≡ value_given (complete bad_relations (relations.get part.now)) }
+pub fn read_relations(part: &[u8]) -> Option<Schema>
+    ensures { relations_in result ≡ value_given (complete bad_relations (relations.get part.now)) }
 {
     let count = read_byte(part, 0, 1, 8)?;
     let n = count as usize;
@@ -171,15 +157,17 @@ pub fn read_relations(part: &[u8]) -> Option<(u8, [u8; 8])>
     if 1 + n < part.len() {
         return None;
     }
-    Some((count, widths))
+    Some(Schema {
+        relations: count,
+        widths,
+    })
 }
 
 // ---- part 1: functional dependencies
 
 // The functional dependency at a position: relation, left set and right column, a byte each.
-fn read_dependency(part: &[u8], at: usize, count: u8, widths: [u8; 8]) -> Option<Dependency>
-    requires { good_relations count widths ≡ true }
-    ensures { result ≡ value_read ((dependency (take count widths)).get (drop at part.now)) }
+fn read_dependency(part: &[u8], at: usize, schema: Schema) -> Option<Dependency>
+    ensures { result ≡ value_read ((dependency (widths_in schema)).get (drop at part.now)) }
 {
     if part.len() < at || part.len() - at < 3 {
         return None;
@@ -189,25 +177,25 @@ fn read_dependency(part: &[u8], at: usize, count: u8, widths: [u8; 8]) -> Option
         left: part[at + 1],
         right: part[at + 2],
     };
-    if limits::dependency_good(count, widths, d) {
+    if schema.dependency_good(d) {
         Some(d)
     } else {
         None
     }
 }
 
-// The front of part 1: the count of functional dependencies, then 3 bytes each.
-pub fn read_dependencies(part: &[u8], count: u8, widths: [u8; 8]) -> Option<(u8, [Dependency; 32])>
-    requires { good_relations count widths ≡ true }
-    ensures { result ≡ value_read ((dependencies (take count widths)).get part.now) }
+// The front of part 1, and the bytes after it: the count of functional dependencies, then 3 bytes each.
+pub fn read_dependencies(part: &[u8], schema: Schema) -> Option<((u8, [Dependency; 32]), &[u8])>
+    ensures { reading_of result ≡ (dependencies (widths_in schema)).get part.now }
 {
     let held = read_byte(part, 0, 0, 32)?;
     let n = held as usize;
     let mut dependencies = [NO_DEPENDENCY; 32];
     for i in 0..n {
-        dependencies[i] = read_dependency(part, 1 + 3 * i, count, widths)?;
+        dependencies[i] = read_dependency(part, 1 + 3 * i, schema)?;
     }
-    Some((held, dependencies))
+    let rest = &part[1 + 3 * n..];
+    Some(((held, dependencies), rest))
 }
 
 // ---- part 1: join dependencies
@@ -223,10 +211,9 @@ pub fn read_sets(part: &[u8], at: usize, n: usize) -> [u8; 4]
 }
 
 // The join dependency at a position: relation, number of sets, and the sets, a byte each.
-fn read_join(part: &[u8], at: usize, count: u8, widths: [u8; 8]) -> Option<JoinDependency>
-    requires widths_value { good_relations count widths ≡ true }
+fn read_join(part: &[u8], at: usize, schema: Schema) -> Option<JoinDependency>
     requires at_in_bounds { at ≤ length part.now }
-    ensures { result ≡ value_read ((join (take count widths)).get (drop at part.now)) }
+    ensures { result ≡ value_read ((join (widths_in schema)).get (drop at part.now)) }
 {
     let left = part.len() - at;
     if left < 2 {
@@ -245,17 +232,12 @@ fn read_join(part: &[u8], at: usize, count: u8, widths: [u8; 8]) -> Option<JoinD
         count: n,
         sets,
     };
-    if limits::join_good(count, widths, j) {
-        Some(j)
-    } else {
-        None
-    }
+    if schema.join_good(j) { Some(j) } else { None }
 }
 
 // What is left of part 1 after the functional dependencies: nothing, or the count of join dependencies and each of them.
-pub fn read_joins(part: &[u8], count: u8, widths: [u8; 8]) -> Option<(u8, [JoinDependency; 4])>
-    requires { good_relations count widths ≡ true }
-    ensures { result ≡ value_given (read_joins (take count widths) part.now) }
+pub fn read_joins(part: &[u8], schema: Schema) -> Option<(u8, [JoinDependency; 4])>
+    ensures { result ≡ value_given (read_joins (widths_in schema) part.now) }
 {
     let mut joins = [NO_JOIN_DEPENDENCY; 4];
     if part.len() == 0 {
@@ -265,7 +247,7 @@ pub fn read_joins(part: &[u8], count: u8, widths: [u8; 8]) -> Option<(u8, [JoinD
     let n = joined as usize;
     let mut at = 1;
     for i in 0..n {
-        let j = read_join(part, at, count, widths)?;
+        let j = read_join(part, at, schema)?;
         joins[i] = j;
         at = at + 2 + j.count as usize;
     }

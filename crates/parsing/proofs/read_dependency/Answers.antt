@@ -1,5 +1,5 @@
 use native.Mathlib.Omega.{arith}
-use lib.ListN.{take}
+use Rattle.limits.specs.Schema.{widths_in}
 use Rattle.parsing.proofs.Dependencies.{dependency-short, found-dependency, bad-dependency}
 use Rattle.std.proofs.Common.{◌<◌, ◌-◌, length}
 use Rattle.parsing.proofs.read_dependency.Goals as goal
@@ -13,18 +13,18 @@ returns-then-part-at c =
       | then-part-at-via-else-part-at+then-part-at-lt3 w ↦ w.if-part-at-lt3.true
     ]
     in
-    dependency-short (take c.args.count c.args.widths) c.args.part.now c.args.at h
+    dependency-short (widths_in c.args.schema) c.args.part.now c.args.at h
 
 pub returns-then-dependency_good : goal.returns-then-dependency_good
 returns-then-dependency_good c =
-    let schema = take c.args.count c.args.widths in
+    let schema = widths_in c.args.schema in
     let part = c.args.part.now in
     let at = c.args.at in
     found-dependency schema part at c.if-part-at-lt3.false c.dependency_good.result c.dependency_good.ensures c.if-dependency_good.true
 
 pub returns-else-dependency_good : goal.returns-else-dependency_good
 returns-else-dependency_good c =
-    let schema = take c.args.count c.args.widths in
+    let schema = widths_in c.args.schema in
     let part = c.args.part.now in
     let at = c.args.at in
     bad-dependency schema part at c.if-part-at-lt3.false c.dependency_good.result c.dependency_good.ensures c.if-dependency_good.false

@@ -4,7 +4,7 @@ use mathlib.Core.Path.{◌≡◌, refl, sym, ap, ◌∙◌}
 use mathlib.Core.List.{List, [], ◌∷◌}
 use Prim.Native.Nat.{ℕ, ◌+◌, ◌≤◌, ◌<◌}
 use native.Mathlib.Omega.{arith}
-use lib.ListN.{length, take, drop, set, replicate, length-set}
+use lib.ListN.{length, drop, set, replicate, length-set}
 use borrow.Author.Rules.{rules}
 use Rattle.refusals.specs.Refusals.{bad_join}
 use Rattle.lists.specs.Tests.{between}
@@ -15,6 +15,7 @@ use Rattle.format.specs.Format.{get_byte}
 use Rattle.format.specs.Parts.{join, unused_join, joins}
 use Rattle.format.specs.File.{complete, read_joins}
 use Rattle.std.proofs.Common.{Option, None, Some}
+use Rattle.limits.specs.Schema.{widths_in}
 use Rattle.parsing.specs.internal.Read.{value_read, value_given}
 use Rattle.parsing.proofs.Values.{value-none}
 use Rattle.parsing.proofs.Joins.{join-read}
@@ -71,17 +72,17 @@ module _ (schema part : List ℕ) (some : length part ≡ 0 → ⊥) where
 
 pub returns-then-part-eq0 : goal.returns-then-part-eq0
 returns-then-part-eq0 c =
-    no_bytes (take c.args.count c.args.widths) c.args.part.now c.if-part-eq0.true
+    no_bytes (widths_in c.args.schema) c.args.part.now c.if-part-eq0.true
 
 pub returns-in_err-joined : goal.returns-in_err-joined
 returns-in_err-joined c =
-    c.from_residual.ensures ∙ no-joins-read (take c.args.count c.args.widths) c.args.part.now c.if-part-eq0.false
+    c.from_residual.ensures ∙ no-joins-read (widths_in c.args.schema) c.args.part.now c.if-part-eq0.false
     c.read_byte.result c.read_byte.ensures c.in_err-joined.was
 
 pub loop-i-init : goal.loop-i-init
 loop-i-init c =
     let (few, f) =
-    begins (take c.args.count c.args.widths) c.args.part.now c.if-part-eq0.false c.in_ok-joined.joined
+    begins (widths_in c.args.schema) c.args.part.now c.if-part-eq0.false c.in_ok-joined.joined
     (sym c.in_ok-joined.was ∙ c.read_byte.ensures) in
     let some = c.if-part-eq0.false in
     (omega arith, few, refl, omega (arith, some), f)
@@ -89,14 +90,14 @@ loop-i-init c =
 pub returns-in_err-j : goal.returns-in_err-j
 returns-in_err-j c =
     c.from_residual-in_err-j.ensures
-    ∙ fails (take c.args.count c.args.widths) c.args.part.now c.if-part-eq0.false c.in_ok-joined.joined
+    ∙ fails (widths_in c.args.schema) c.args.part.now c.if-part-eq0.false c.in_ok-joined.joined
     c.loop-i.joins c.loop-i.i c.loop-i.at c.loop-i.invariant.4 c.loop-i-test.true
     c.read_join.result c.read_join.ensures c.in_err-j.was
 
 pub overflow_add-at : goal.overflow_add-at
 overflow_add-at c =
     let inside =
-    (join-read (take c.args.count c.args.widths) c.args.part.now c.loop-i.at c.in_ok-j.j
+    (join-read (widths_in c.args.schema) c.args.part.now c.loop-i.at c.in_ok-j.j
     c.loop-i.invariant.3 (sym c.in_ok-j.was ∙ c.read_join.ensures)).1
     in
     search rules
@@ -104,14 +105,14 @@ overflow_add-at c =
 pub overflow_add-at-in-loop-i : goal.overflow_add-at-in-loop-i
 overflow_add-at-in-loop-i c =
     let inside =
-    (join-read (take c.args.count c.args.widths) c.args.part.now c.loop-i.at c.in_ok-j.j
+    (join-read (widths_in c.args.schema) c.args.part.now c.loop-i.at c.in_ok-j.j
     c.loop-i.invariant.3 (sym c.in_ok-j.was ∙ c.read_join.ensures)).1
     in
     search rules
 
 pub loop-i-preserved : goal.loop-i-preserved
 loop-i-preserved c =
-    let schema = take c.args.count c.args.widths in
+    let schema = widths_in c.args.schema in
     let j = c.in_ok-j.j in (
       search rules,
       c.loop-i.invariant.1,
@@ -123,10 +124,10 @@ loop-i-preserved c =
 
 pub returns-then-at-part : goal.returns-then-at-part
 returns-then-at-part c =
-    too_long (take c.args.count c.args.widths) c.args.part.now c.if-part-eq0.false c.in_ok-joined.joined
+    too_long (widths_in c.args.schema) c.args.part.now c.if-part-eq0.false c.in_ok-joined.joined
     c.loop-i.joins c.loop-i.i c.loop-i.at c.loop-i.invariant.4 c.loop-i-test.false c.if-at-part.true
 
 pub returns : goal.returns
 returns c =
-    accepted (take c.args.count c.args.widths) c.args.part.now c.if-part-eq0.false c.in_ok-joined.joined
+    accepted (widths_in c.args.schema) c.args.part.now c.if-part-eq0.false c.in_ok-joined.joined
     c.loop-i.joins c.loop-i.i c.loop-i.at c.loop-i.invariant.4 c.loop-i-test.false c.if-at-part.false

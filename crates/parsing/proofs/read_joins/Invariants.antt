@@ -2,13 +2,14 @@
 -- Assumes nothing.
 use mathlib.Core.Path.{◌≡◌}
 use Prim.Native.Nat.{◌≤◌}
-use lib.ListN.{length, take}
+use lib.ListN.{length}
 use mathlib.Core.List.{List}
 use Prim.Native.Nat.{ℕ}
 use Rattle.lists.specs.Tests.{between}
 use Rattle.query.specs.declared.JoinDependency.{JoinDependency}
 use Rattle.query.specs.Rule.{no_join}
 use Rattle.format.specs.Parts.{join, unused_join}
+use Rattle.limits.specs.Schema.{widths_in}
 use Rattle.parsing.proofs.Counted.{Counting}
 use Rattle.parsing.proofs.read_joins.Given as goal
 
@@ -18,4 +19,4 @@ At schema part n js i at = Counting (between 1 4) 4 no_join unused_join (join sc
 
 abbrev pub invariant-loop-i : goal.invariant-loop-i
 invariant-loop-i l =
-    (l.i ≤ l.n) × (l.n ≤ 4) × (length l.joins ≡ 4) × (l.at ≤ length l.part) × At (take l.count l.widths) l.part l.n l.joins l.i l.at
+    (l.i ≤ l.n) × (l.n ≤ 4) × (length l.joins ≡ 4) × (l.at ≤ length l.part) × At (widths_in l.schema) l.part l.n l.joins l.i l.at

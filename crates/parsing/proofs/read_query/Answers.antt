@@ -6,21 +6,23 @@ use mathlib.Core.List.{List}
 use Prim.Native.Nat.{ℕ, ◌+◌, ◌*◌, ◌-◌, ◌≤◌}
 use native.Mathlib.Omega.{arith}
 use lib.Dec.{eqb, leb}
-use lib.ListN.{length, take, drop, length-drop}
+use lib.ListN.{length, drop, length-drop}
 use lib.Seq.{drop-drop}
-use Rattle.std.proofs.Common.{None, Some}
+use Rattle.std.proofs.Common.{Some}
 use Rattle.query.specs.declared.Cell.{Cell}
 use Rattle.query.specs.Types.{Query}
 use Rattle.lists.specs.Tests.{between}
 use Rattle.format.specs.Format.{none, got, map_reading, get_byte}
 use Rattle.format.specs.Parts.{entries, rows, query_with, query}
 use Rattle.format.proofs.Parts.{head_fits}
-use Rattle.parsing.specs.declared.RowsRead.{RowsRead}
-use Rattle.parsing.specs.internal.Read.{value_read, rows_read, query_read}
+use Rattle.limits.specs.Schema.{widths_in}
+use Rattle.parsing.specs.declared.StoredRows.{StoredRows}
+use Rattle.format.proofs.Formats.{map_reading-got}
+use Rattle.parsing.specs.internal.Read.{value_read, reading_of, stored_rows}
 use Rattle.parsing.proofs.Values.{value-none, value-got}
 use Rattle.parsing.proofs.Counted.{byte-read, no-low}
 use Rattle.parsing.proofs.RowLaws.{byte-bounds, entries-bounds}
-use Rattle.parsing.proofs.QueryLaws.{map-none, no-arity, no_size, no-head, after-head, rows-none, rows-some}
+use Rattle.parsing.proofs.QueryLaws.{map-none, no-arity, no_size, no-head, after-head, rows-none}
 use Rattle.parsing.proofs.read_query.Goals as goal
 
 -- What the first two bytes say
@@ -43,9 +45,6 @@ sizes part arity size e e' =
     let l : 1 ≤ length (drop 1 part) = (byte-bounds (λ n. leb n 12) (drop 1 part) size (drop 2 part) es).1 in
     let m : length (drop 1 part) ≡ length part - 1 = length-drop 1 part in
     record { arity-read = ea; size-read = es; arity-fits = leb-true arity 8 ta; size_fits = leb-true size 12 ts; long = omega arith }
-
-refuses : (schema part : List ℕ) → (query schema).get part ≡ none → None ≡ query_read ((query schema).get part)
-refuses schema part e = sym (ap query_read e)
 
 -- where the head's entries end
 head-ends : (part : List ℕ) (arity size used : ℕ) (head : List Cell) → Sizes part arity size → used ≡ cond (eqb size 0) 0 arity
@@ -70,39 +69,30 @@ module _ (schema part : List ℕ) (arity size used : ℕ) (head : List Cell) (z 
         after-head schema part arity z.arity-read size z.size-read head (drop (2 + 5 * used) part)
         (head-ends part arity size used head z eu ef).0
 
-    bad-rows : None ≡ rows_read ((rows 12 schema size).get (drop (2 + 5 * used) part)) → None ≡ query_read ((query schema).get part)
+    bad-rows : none ≡ map_reading stored_rows ((rows 12 schema size).get (drop (2 + 5 * used) part)) → none ≡ (query schema).get part
     bad-rows b =
-        refuses schema part (on-rows ∙ map-none with_rows ((rows 12 schema size).get (drop (2 + 5 * used) part))
+        sym (on-rows ∙ map-none with_rows ((rows 12 schema size).get (drop (2 + 5 * used) part))
         (rows-none ((rows 12 schema size).get (drop (2 + 5 * used) part)) b))
 
-    accepts : (rs : RowsRead) → Some rs ≡ rows_read ((rows 12 schema size).get (drop (2 + 5 * used) part))
-        → Some (record {
-          whole = rs.whole;
-          query = record { arity = arity; size = size; head = head; relations = rs.relations; cells = rs.cells };
-        })
-        ≡ query_read ((query schema).get part)
+    accepts : (rs : StoredRows) (rest : List ℕ) → got rs rest ≡ map_reading stored_rows ((rows 12 schema size).get (drop (2 + 5 * used) part))
+        → got (record { arity = arity; size = size; head = head; relations = rs.relations; cells = rs.cells }) rest ≡ (query schema).get part
     unfolding map_reading
-    accepts rs b =
-        let r = rows-some ((rows 12 schema size).get (drop (2 + 5 * used) part)) rs b in
-        let done : (query schema).get part ≡ got (with_rows r.all) r.rest = on-rows ∙ ap (map_reading with_rows) r.reading in
-        (λ i. Some (record {
-          whole = r.whole i;
-          query = record { arity = arity; size = size; head = head; relations = r.relations i; cells = r.cells i };
-        }))
-        ∙ sym (ap query_read done)
+    accepts rs rest b =
+        let (all, e, is) = map_reading-got stored_rows ((rows 12 schema size).get (drop (2 + 5 * used) part)) rs rest (sym b) in
+        let done : (query schema).get part ≡ got (with_rows all) rest = on-rows ∙ ap (map_reading with_rows) e in
+        ap (λ (r : StoredRows). got (record { arity = arity; size = size; head = head; relations = r.relations; cells = r.cells }) rest) (sym is)
+        ∙ sym done
 
 pub returns-in_err-arity : goal.returns-in_err-arity
 returns-in_err-arity c =
-    c.from_residual.ensures ∙ refuses (take c.args.count c.args.widths) c.args.part.now
-    (no-arity (take c.args.count c.args.widths) c.args.part.now
+    ap reading_of c.from_residual.ensures ∙ sym (no-arity (widths_in c.args.schema) c.args.part.now
     (value-none (get_byte (λ n. leb n 8) c.args.part.now)
     (rw no-low at (sym c.in_err-arity.was ∙ c.read_byte.ensures))))
 
 pub returns-in_err-size : goal.returns-in_err-size
 returns-in_err-size c =
     let (t, ea) = first c.args.part.now c.in_ok-arity.arity (sym c.in_ok-arity.was ∙ c.read_byte.ensures) in
-    c.from_residual-in_err-size.ensures ∙ refuses (take c.args.count c.args.widths) c.args.part.now
-    (no_size (take c.args.count c.args.widths) c.args.part.now c.in_ok-arity.arity ea
+    ap reading_of c.from_residual-in_err-size.ensures ∙ sym (no_size (widths_in c.args.schema) c.args.part.now c.in_ok-arity.arity ea
     (value-none (get_byte (λ n. leb n 12) (drop 1 c.args.part.now))
     (rw no-low at (sym c.in_err-size.was ∙ c.read_byte-2.ensures))))
 
@@ -119,8 +109,7 @@ returns-in_err-head c =
     sizes c.args.part.now c.in_ok-arity.arity c.in_ok-size.size (sym c.in_ok-arity.was ∙ c.read_byte.ensures)
     (sym c.in_ok-size.was ∙ c.read_byte-2.ensures) in
     let e = value-none ((entries c.head_in_use-used.result).get (drop 2 c.args.part.now)) (sym c.in_err-head.was ∙ c.read_entries.ensures) in
-    c.from_residual-in_err-head.ensures ∙ refuses (take c.args.count c.args.widths) c.args.part.now
-    (no-head (take c.args.count c.args.widths) c.args.part.now c.in_ok-arity.arity z.arity-read
+    ap reading_of c.from_residual-in_err-head.ensures ∙ sym (no-head (widths_in c.args.schema) c.args.part.now c.in_ok-arity.arity z.arity-read
     c.in_ok-size.size z.size-read (rw (← c.head_in_use-used.ensures) e))
 
 pub read_rows-requires : goal.read_rows-requires
@@ -131,23 +120,23 @@ read_rows-requires c =
     let ends =
     (head-ends c.args.part.now c.in_ok-arity.arity c.in_ok-size.size c.head_in_use-used.result
     c.in_ok-head.head z c.head_in_use-used.ensures (sym c.in_ok-head.was ∙ c.read_entries.ensures)).1 in
-    record { widths_value = c.requires; start_in_bounds = ends; size_bound = z.size_fits }
+    record { start_in_bounds = ends; size_bound = z.size_fits }
 
-pub returns-in_err-whole : goal.returns-in_err-whole
-returns-in_err-whole c =
+pub returns-in_err-rows : goal.returns-in_err-rows
+returns-in_err-rows c =
     let z =
     sizes c.args.part.now c.in_ok-arity.arity c.in_ok-size.size (sym c.in_ok-arity.was ∙ c.read_byte.ensures)
     (sym c.in_ok-size.was ∙ c.read_byte-2.ensures) in
-    c.from_residual-in_err-whole.ensures
-    ∙ bad-rows (take c.args.count c.args.widths) c.args.part.now c.in_ok-arity.arity c.in_ok-size.size
+    ap reading_of c.from_residual-in_err-rows.ensures
+    ∙ bad-rows (widths_in c.args.schema) c.args.part.now c.in_ok-arity.arity c.in_ok-size.size
     c.head_in_use-used.result c.in_ok-head.head z c.head_in_use-used.ensures (sym c.in_ok-head.was ∙ c.read_entries.ensures)
-    (sym c.in_err-whole.was ∙ c.read_rows.ensures)
+    (ap reading_of (sym c.in_err-rows.was) ∙ c.read_rows.ensures)
 
 pub returns : goal.returns
 returns c =
     let z =
     sizes c.args.part.now c.in_ok-arity.arity c.in_ok-size.size (sym c.in_ok-arity.was ∙ c.read_byte.ensures)
     (sym c.in_ok-size.was ∙ c.read_byte-2.ensures) in
-    accepts (take c.args.count c.args.widths) c.args.part.now c.in_ok-arity.arity c.in_ok-size.size
+    accepts (widths_in c.args.schema) c.args.part.now c.in_ok-arity.arity c.in_ok-size.size
     c.head_in_use-used.result c.in_ok-head.head z c.head_in_use-used.ensures (sym c.in_ok-head.was ∙ c.read_entries.ensures)
-    c.in_ok-whole.field-0 (sym c.in_ok-whole.was ∙ c.read_rows.ensures)
+    c.in_ok-rows.rows c.in_ok-rows.rest.now (ap reading_of (sym c.in_ok-rows.was) ∙ c.read_rows.ensures)

@@ -7,18 +7,19 @@ use native.Mathlib.Omega.{arith}
 use lib.Dec.{leb}
 use lib.ListN.{length, drop, set, replicate, length-set}
 use borrow.Author.Tests.{leb-true}
-use Rattle.refusals.specs.Refusals.{bad_relations}
+use Rattle.refusals.specs.Refusals.{bad_relations, gives}
 use Rattle.lists.specs.Tests.{between, is_zero}
 use Rattle.format.specs.Format.{get_byte, byte}
 use Rattle.format.specs.Parts.{relations}
 use Rattle.format.specs.File.{complete}
 use Rattle.lists.proofs.Tests.{and-iff}
+use Rattle.format.proofs.Bytes.{bytes-known}
+use Rattle.format.proofs.Parts.{relations-lawful}
+use Rattle.format.proofs.Results.{complete-get}
+use Rattle.format.proofs.Rules.{good-relations}
 use Rattle.std.proofs.Common.{Option, None, Some}
-use Rattle.parsing.specs.internal.Read.{value_read, value_given}
-use Rattle.parsing.proofs.Values.{value-none}
-use Rattle.std.proofs.Common.{Option, None, Some}
-use Rattle.parsing.specs.internal.Read.{value_read, value_given}
-use Rattle.parsing.proofs.Values.{value-none}
+use Rattle.parsing.specs.internal.Read.{value_read, value_given, relations_in}
+use Rattle.parsing.proofs.Values.{value-none, reply-some}
 use Rattle.parsing.proofs.Counted.{byte-read, counting-starts, counting-turns, counting-fails, counting-ends, counting-long}
 use Rattle.parsing.proofs.Counted.{no-count}
 use Rattle.parsing.proofs.read_relations.Invariants.{At}
@@ -63,7 +64,7 @@ module _ (part : List ℕ) where
 
 pub returns-in_err-count : goal.returns-in_err-count
 returns-in_err-count c =
-    c.from_residual.ensures ∙ no-relations-read c.args.part.now c.read_byte.result c.read_byte.ensures
+    ap relations_in c.from_residual.ensures ∙ no-relations-read c.args.part.now c.read_byte.result c.read_byte.ensures
     c.in_err-count.was
 
 pub loop-i-init : goal.loop-i-init
@@ -74,7 +75,7 @@ loop-i-init c =
 
 pub returns-in_err-widths : goal.returns-in_err-widths
 returns-in_err-widths c =
-    c.from_residual-in_err-widths.ensures
+    ap relations_in c.from_residual-in_err-widths.ensures
     ∙ fails _ _ c.loop-i.widths c.loop-i.i c.loop-i.invariant.3 c.loop-i-test.true
     c.read_byte-in-loop-i.result c.read_byte-in-loop-i.ensures c.in_err-widths.was
 
@@ -97,3 +98,13 @@ pub returns : goal.returns
 returns c =
     accepted _ _ c.loop-i.widths c.loop-i.i c.loop-i.invariant.3 c.loop-i.invariant.0
     c.loop-i-test.false c.if-n-part.false
+
+pub invariant_of-result : goal.invariant_of-result
+invariant_of-result c =
+    let part = c.args.part.now in
+    let read : complete bad_relations (relations.get part) ≡ gives (c.in_ok-count.count, c.loop-i.widths) =
+    reply-some (complete bad_relations (relations.get part)) (c.in_ok-count.count, c.loop-i.widths)
+    (accepted _ _ c.loop-i.widths c.loop-i.i c.loop-i.invariant.3 c.loop-i.invariant.0 c.loop-i-test.false c.if-n-part.false)
+    in
+    let bytes = bytes-known part (λ i. (c.type_inv.part i).fits) in
+    record { good = (good-relations _ (complete-get bad_relations relations relations-lawful part _ bytes read).0).1 }

@@ -1,12 +1,16 @@
 -- `read_rows` reads the rows one after another, and the entries of each into their cells.
 -- Assumes nothing.
-use mathlib.Core.Path.{◌≡◌, ◌∙◌}
-use Prim.Native.Nat.{◌+◌, ◌*◌, ◌≤◌}
+use mathlib.Core.Path.{◌≡◌, ap, ◌∙◌}
+use Prim.Native.Nat.{◌+◌, ◌-◌, ◌*◌, ◌≤◌}
+use borrow.Author.Rules.{rules}
+use lib.Seq.{take_all}
 use native.Mathlib.Numerals.{add-one-dec}
 use native.Mathlib.Omega.{arith}
-use lib.ListN.{length, take, get_or}
+use lib.ListN.{length, drop, get_or, length-drop}
 use Rattle.format.proofs.Rules.{good-narrow}
 use Rattle.query.proofs.Relations.{relations-bounds}
+use Rattle.limits.specs.Schema.{widths_in}
+use Rattle.parsing.specs.internal.Read.{reading_of}
 use Rattle.parsing.proofs.RowLaws.{row-past, row-unknown}
 use Rattle.parsing.proofs.ReadingRows.{schema-length, begins, fails, accepted, known-row, row-begins, row-goes-on, row-stops}
 use Rattle.parsing.proofs.ReadingRows.{row_ends, next_fits, entry-fits, entries_fit, relation-fits, row_inside, cell-inside, cell-fits, offset-fits}
@@ -16,14 +20,14 @@ use Rattle.parsing.proofs.read_rows.Goals as goal
 pub loop-r-init : goal.loop-r-init
 loop-r-init c =
     let a = c.args in
-    let S = take a.count a.widths in
+    let S = widths_in a.schema in
     let X = a.part.now in
     begins S X a.start a.size c.requires.start_in_bounds
 
 pub returns-then-part-at : goal.returns-then-part-at
 returns-then-part-at c =
     let a = c.args in
-    let S = take a.count a.widths in
+    let S = widths_in a.schema in
     let X = a.part.now in
     let l = c.loop-r in
     fails S X a.start a.size l.relations l.cells l.at l.r l.invariant c.loop-r-test.true
@@ -32,38 +36,38 @@ returns-then-part-at c =
 pub bounds-part-at : goal.bounds-part-at
 bounds-part-at c = c.if-part-at.false
 
-pub returns-then-count-relation : goal.returns-then-count-relation
-returns-then-count-relation c =
+pub returns-then-schema-relation : goal.returns-then-schema-relation
+returns-then-schema-relation c =
     let a = c.args in
-    let S = take a.count a.widths in
+    let S = widths_in a.schema in
     let X = a.part.now in
     let l = c.loop-r in
-    let long : length a.widths ≡ 8 = c.well_formed.1.1.1.1.0.1.0.1 in
-    let unknown : length S ≤ get_or X l.at 0 = rw (schema-length a.count a.widths c.requires.widths_value long) c.if-count-relation.true in
+    let long : length a.schema.widths ≡ 8 = search rules in
+    let unknown : length S ≤ get_or X l.at 0 = rw (schema-length a.schema.relations a.schema.widths c.args.schema.good long) c.if-schema-relation.true in
     fails S X a.start a.size l.relations l.cells l.at l.r l.invariant c.loop-r-test.true
     (row-unknown S X l.at c.if-part-at.false unknown)
 
 pub overflow_cast-width : goal.overflow_cast-width
 overflow_cast-width c =
-    relation-fits (get_or c.args.part.now c.loop-r.at 0) c.args.count c.if-count-relation.false c.ranges.count
+    relation-fits (get_or c.args.part.now c.loop-r.at 0) c.args.schema.relations c.if-schema-relation.false (search rules)
 
-pub bounds-widths-relation : goal.bounds-widths-relation
-bounds-widths-relation c =
+pub bounds-schema-relation : goal.bounds-schema-relation
+bounds-schema-relation c =
     let a = c.args in
-    let S = take a.count a.widths in
+    let S = widths_in a.schema in
     let X = a.part.now in
-    let long : length a.widths ≡ 8 = c.well_formed.1.1.1.1.0.1.0.1 in
-    omega (arith, (relations-bounds a.count a.widths c.requires.widths_value).1)
+    let long : length a.schema.widths ≡ 8 = search rules in
+    omega (arith, (relations-bounds a.schema.relations a.schema.widths c.args.schema.good).1)
 
 pub loop-i-init : goal.loop-i-init
 loop-i-init c =
     let a = c.args in
-    let S = take a.count a.widths in
+    let S = widths_in a.schema in
     let X = a.part.now in
     let l = c.loop-r in
-    let long : length a.widths ≡ 8 = c.well_formed.1.1.1.1.0.1.0.1 in
-    row-begins S X a.start a.size l.relations l.cells l.at l.r l.invariant (get_or a.widths (get_or X l.at 0) 0)
-    (known-row a.count a.widths X l.at c.requires.widths_value long c.if-part-at.false c.if-count-relation.false) (row_inside l.r a.size
+    let long : length a.schema.widths ≡ 8 = search rules in
+    row-begins S X a.start a.size l.relations l.cells l.at l.r l.invariant (get_or a.schema.widths (get_or X l.at 0) 0)
+    (known-row a.schema.relations a.schema.widths X l.at c.args.schema.good long c.if-part-at.false c.if-schema-relation.false) (row_inside l.r a.size
     c.loop-r-test.true c.requires.size_bound)
 
 pub overflow_add-at : goal.overflow_add-at
@@ -102,13 +106,13 @@ bounds-cells-r c =
 pub returns-in_err-cells : goal.returns-in_err-cells
 returns-in_err-cells c =
     let a = c.args in
-    let S = take a.count a.widths in
+    let S = widths_in a.schema in
     let X = a.part.now in
     let l = c.loop-r in
     let m = c.loop-i in
     let o = c.read_entry in
-    c.from_residual.ensures ∙ fails S X a.start a.size l.relations l.cells l.at l.r l.invariant c.loop-r-test.true
-    (row-stops S X l.at l.r (get_or a.widths (get_or X l.at 0) 0) l.cells m.cells m.i m.invariant o.result o.ensures
+    ap reading_of c.from_residual.ensures ∙ fails S X a.start a.size l.relations l.cells l.at l.r l.invariant c.loop-r-test.true
+    (row-stops S X l.at l.r (get_or a.schema.widths (get_or X l.at 0) 0) l.cells m.cells m.i m.invariant o.result o.ensures
     c.in_err-cells.was c.loop-i-test.true)
 
 pub overflow_step-i : goal.overflow_step-i
@@ -121,12 +125,12 @@ loop-i-smaller c = add-one-dec _ c.loop-i.i c.loop-i-test.true
 pub loop-i-preserved : goal.loop-i-preserved
 loop-i-preserved c =
     let a = c.args in
-    let S = take a.count a.widths in
+    let S = widths_in a.schema in
     let X = a.part.now in
     let l = c.loop-r in
     let m = c.loop-i in
     let o = c.read_entry in
-    row-goes-on S X l.at l.r (get_or a.widths (get_or X l.at 0) 0) l.cells m.cells m.i m.invariant o.result o.ensures
+    row-goes-on S X l.at l.r (get_or a.schema.widths (get_or X l.at 0) 0) l.cells m.cells m.i m.invariant o.result o.ensures
     c.in_ok-cells.field-0 c.in_ok-cells.was (row_inside l.r a.size c.loop-r-test.true c.requires.size_bound) l.invariant.cells-long
     c.loop-i-test.true
 
@@ -156,17 +160,18 @@ loop-r-smaller c =
 pub loop-r-preserved : goal.loop-r-preserved
 loop-r-preserved c =
     let a = c.args in
-    let S = take a.count a.widths in
+    let S = widths_in a.schema in
     let X = a.part.now in
     let l = c.loop-r in
     let m = c.loop-i in
-    row_ends S X a.start a.size l.relations l.cells m.cells l.at l.r (get_or a.widths (get_or X l.at 0) 0) m.i
-    (good-narrow a.count a.widths c.requires.widths_value) l.invariant m.invariant c.loop-r-test.true c.requires.size_bound c.loop-i-test.false
+    row_ends S X a.start a.size l.relations l.cells m.cells l.at l.r (get_or a.schema.widths (get_or X l.at 0) 0) m.i
+    (good-narrow a.schema.relations a.schema.widths c.args.schema.good) l.invariant m.invariant c.loop-r-test.true c.requires.size_bound c.loop-i-test.false
 
 pub returns : goal.returns
 returns c =
     let a = c.args in
-    let S = take a.count a.widths in
+    let S = widths_in a.schema in
     let X = a.part.now in
     let l = c.loop-r in
-    accepted S X a.start a.size l.relations l.cells l.at l.r l.invariant c.loop-r-test.false
+    accepted S X a.start a.size l.relations l.cells l.at l.r l.invariant c.loop-r-test.false _
+    (take_all (length X - l.at) (drop l.at X) (omega (arith, length-drop l.at X)))
