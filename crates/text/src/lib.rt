@@ -3,11 +3,13 @@
 
 ghost use Rattle.std.specs.Prelude.{◌≡◌, ◌+◌, ◌*◌, ◌≤◌, true, [], ◌∷◌, ◌++◌, length, take, drop};
 ghost use Rattle.query.specs.View.{entry_of, entries_of, query_of, images_of};
-ghost use Rattle.query.specs.Rule.{good_relations, good_query};
+ghost use Rattle.query.specs.Rule.{good_query};
+ghost use Rattle.limits.specs.Schema.{widths_in};
 ghost use Rattle.printing.specs.internal.Writing.{Fits, WrittenAt};
 ghost use Rattle.text.specs.Text.{entry_text, entries_text, place_line, never_line, head_line, row_line, rows_text, image_text, images_text, map_line, place_text, refused_text};
 ghost use Rattle.text.specs.internal.Listable.{row_of_cells, variables_in_rows, Listable};
 
+use limits::schema::Schema;
 use printing::{put_byte, put_bytes, put_field, put_number};
 use query::{Cell, Entry, Query};
 
@@ -31,31 +33,16 @@ fn put_entry_after(buffer: &mut [u8], at: usize, byte: u8, entry: Entry) -> usiz
     put_entry(buffer, next, entry)
 }
 
-// Writes the first n of some entries, each after a space.
-fn put_entries(buffer: &mut [u8], at: usize, cells: [Cell; 8], n: usize) -> usize
-    requires { Fits buffer.old at (entries_text (entries_of (take n cells))) × (n ≤ 8) }
-    ensures { WrittenAt buffer.old at (entries_text (entries_of (take n cells))) buffer.new result }
+// Writes some entries, each after a space.
+fn put_entries(buffer: &mut [u8], at: usize, cells: &[Cell]) -> usize
+    requires { Fits buffer.old at (entries_text (entries_of cells.now)) }
+    ensures { WrittenAt buffer.old at (entries_text (entries_of cells.now)) buffer.new result }
 {
     let mut next = at;
-    for i in 0..n {
-        let cell = cells[i];
-        let entry = cell.entry;
-        next = put_entry_after(buffer, next, b' ', entry);
+    for cell in cells {
+        next = put_entry_after(buffer, next, b' ', cell.entry);
     }
     next
-}
-
-// The eight cells from a position on.
-fn row_cells(cells: [Cell; 96], start: usize) -> [Cell; 8]
-    requires { start + 8 ≤ 96 }
-    ensures { result ≡ take 8 (drop start cells) }
-{
-    let blank = query::NO_CELL;
-    let mut row = [blank; 8];
-    for i in 0..8 {
-        row[i] = cells[start + i];
-    }
-    row
 }
 
 // Writes the line of a place that has a result with rows.
@@ -89,41 +76,36 @@ fn put_never_line(buffer: &mut [u8], at: usize, place: usize, rows: usize, count
     put_byte(buffer, next, b'\n')
 }
 
-// Writes the line of a head, whose first n cells are in use.
-fn put_head_line(buffer: &mut [u8], at: usize, cells: [Cell; 8], n: usize) -> usize
-    requires { Fits buffer.old at (head_line (entries_of (take n cells))) × (n ≤ 8) }
-    ensures { WrittenAt buffer.old at (head_line (entries_of (take n cells))) buffer.new result }
+// Writes the line of a head.
+fn put_head_line(buffer: &mut [u8], at: usize, cells: &[Cell]) -> usize
+    requires { Fits buffer.old at (head_line (entries_of cells.now)) }
+    ensures { WrittenAt buffer.old at (head_line (entries_of cells.now)) buffer.new result }
 {
     let next = put_bytes(buffer, at, b"head");
-    let next = put_entries(buffer, next, cells, n);
+    let next = put_entries(buffer, next, cells);
     put_byte(buffer, next, b'\n')
 }
 
-// Writes the line of a row, whose first n cells are in use.
-fn put_row_line(buffer: &mut [u8], at: usize, relation: usize, cells: [Cell; 8], n: usize) -> usize
-    requires { Fits buffer.old at (row_line (row_of_cells relation (take n cells))) × (n ≤ 8) }
-    ensures { WrittenAt buffer.old at (row_line (row_of_cells relation (take n cells))) buffer.new result }
+// Writes the line of a row.
+fn put_row_line(buffer: &mut [u8], at: usize, relation: usize, cells: &[Cell]) -> usize
+    requires { Fits buffer.old at (row_line (row_of_cells relation cells.now)) }
+    ensures { WrittenAt buffer.old at (row_line (row_of_cells relation cells.now)) buffer.new result }
 {
     let next = put_field(buffer, at, b"row ", relation);
-    let next = put_entries(buffer, next, cells, n);
+    let next = put_entries(buffer, next, cells);
     put_byte(buffer, next, b'\n')
 }
 
 // Writes a line for each row of a query.
-fn put_rows(buffer: &mut [u8], at: usize, relations: u8, widths: [u8; 8], query: Query) -> usize
-    requires { Fits buffer.old at (rows_text (query_of (take relations widths) query).rows) × (good_relations relations widths ≡ true) × (good_query
-        (take relations widths) query ≡ true) }
-    ensures { WrittenAt buffer.old at (rows_text (query_of (take relations widths) query).rows) buffer.new result }
+fn put_rows(buffer: &mut [u8], at: usize, schema: Schema, query: Query) -> usize
+    requires { Fits buffer.old at (rows_text (query_of (widths_in schema) query).rows) × (good_query (widths_in schema) query ≡ true) }
+    ensures { WrittenAt buffer.old at (rows_text (query_of (widths_in schema) query).rows) buffer.new result }
 {
-    let size = query.size as usize;
-    let named = query.relations;
-    let cells = query.cells;
     let mut next = at;
-    for r in 0..size {
-        let relation = named[r];
-        let width = limits::width_of(relations, widths, relation);
-        let row = row_cells(cells, 8 * r);
-        next = put_row_line(buffer, next, relation as usize, row, width as usize);
+    for (r, relation) in query.relations[..query.size as usize].iter().enumerate() {
+        let width = schema.width_of(*relation) as usize;
+        let row = &query.cells[8 * r..8 * r + width];
+        next = put_row_line(buffer, next, *relation as usize, row);
     }
     next
 }
@@ -141,24 +123,18 @@ fn put_image(buffer: &mut [u8], at: usize, v: usize, image: Entry) -> usize
 fn put_images(
     buffer: &mut [u8],
     at: usize,
-    relations: u8,
-    widths: [u8; 8],
+    schema: Schema,
     query: Query,
     images: [Cell; 96],
 ) -> usize
-    requires { Fits buffer.old at (images_text (images_of images) (variables_in_rows (query_of (take relations widths) query))) × (good_relations relations widths
-        ≡ true) × (query.size ≤ 12) }
-    ensures { WrittenAt buffer.old at (images_text (images_of images) (variables_in_rows (query_of (take relations widths) query))) buffer.new result }
+    requires { Fits buffer.old at (images_text (images_of images) (variables_in_rows (query_of (widths_in schema) query))) × (query.size ≤ 12) }
+    ensures { WrittenAt buffer.old at (images_text (images_of images) (variables_in_rows (query_of (widths_in schema) query))) buffer.new result }
 {
-    let size = query.size as usize;
-    let named = query.relations;
-    let cells = query.cells;
+    let named = &query.relations[..query.size as usize];
     let mut next = at;
-    for v in 0..96 {
-        if limits::rows_have(relations, widths, size, named, cells, v as u8) {
-            let cell = images[v];
-            let image = cell.entry;
-            next = put_image(buffer, next, v, image);
+    for (v, image) in images.iter().enumerate() {
+        if schema.rows_have(named, &query.cells, v as u8) {
+            next = put_image(buffer, next, v, image.entry);
         }
     }
     next
@@ -168,17 +144,15 @@ fn put_images(
 fn put_map_line(
     buffer: &mut [u8],
     at: usize,
-    relations: u8,
-    widths: [u8; 8],
+    schema: Schema,
     query: Query,
     images: [Cell; 96],
 ) -> usize
-    requires { Fits buffer.old at (map_line (images_of images) (variables_in_rows (query_of (take relations widths) query))) × (good_relations relations widths
-        ≡ true) × (query.size ≤ 12) }
-    ensures { WrittenAt buffer.old at (map_line (images_of images) (variables_in_rows (query_of (take relations widths) query))) buffer.new result }
+    requires { Fits buffer.old at (map_line (images_of images) (variables_in_rows (query_of (widths_in schema) query))) × (query.size ≤ 12) }
+    ensures { WrittenAt buffer.old at (map_line (images_of images) (variables_in_rows (query_of (widths_in schema) query))) buffer.new result }
 {
     let next = put_bytes(buffer, at, b"map");
-    let next = put_images(buffer, next, relations, widths, query, images);
+    let next = put_images(buffer, next, schema, query, images);
     put_byte(buffer, next, b'\n')
 }
 
@@ -187,15 +161,14 @@ pub fn write_place(
     buffer: &mut [u8],
     at: usize,
     place: usize,
-    relations: u8,
-    widths: [u8; 8],
+    schema: Schema,
     source: Query,
     res: Query,
     count: u8,
     images: [Cell; 96],
 ) -> usize
-    requires { Listable buffer.old at place relations widths source res images }
-    ensures { WrittenAt buffer.old at (place_text place (query_of (take relations widths) source) (query_of (take relations widths) res) count
+    requires { Listable buffer.old at place schema source res images }
+    ensures { WrittenAt buffer.old at (place_text place (query_of (widths_in schema) source) (query_of (widths_in schema) res) count
         (images_of images)) buffer.new result }
 {
     let rows = source.size as usize;
@@ -203,12 +176,11 @@ pub fn write_place(
     if kept == 0 {
         return put_never_line(buffer, at, place, rows, count as usize);
     }
-    let head = res.head;
-    let arity = res.arity as usize;
+    let head = &res.head[..res.arity as usize];
     let next = put_place_line(buffer, at, place, rows, kept, count as usize);
-    let next = put_head_line(buffer, next, head, arity);
-    let next = put_rows(buffer, next, relations, widths, res);
-    put_map_line(buffer, next, relations, widths, source, images)
+    let next = put_head_line(buffer, next, head);
+    let next = put_rows(buffer, next, schema, res);
+    put_map_line(buffer, next, schema, source, images)
 }
 
 // Writes the line of a refused file.

@@ -3,7 +3,7 @@ use borrow.Author.Rules.{rules}
 use mathlib.Core.Path.{sym, ◌∙◌}
 use mathlib.Core.Bool.{Bool}
 use Prim.Native.Nat.{ℕ}
-use lib.ListN.{take}
+use Rattle.limits.specs.Schema.{widths_in}
 use Rattle.query.specs.View.{images_of}
 use Rattle.printing.proofs.Writing.{started, part-fits, wrote, finished, left_as, moved, same_size}
 use Rattle.text.proofs.Turns.{in_row, images-passed, images-skipped, images-end}
@@ -17,7 +17,7 @@ pub put_image-next-requires : goal.put_image-next-requires
 put_image-next-requires c =
     let l = c.loop-v in
     let s = c.args in
-    let test : ℕ → Bool = in_row (take s.relations s.widths) s.query.size s.query.relations s.query.cells in
+    let test : ℕ → Bool = in_row (widths_in s.schema) s.query.size s.query.relations s.query.cells in
     let yes = sym c.rows_have.ensures ∙ c.if-rows_have.true in
     part-fits l.invariant.1 _ _ (images-passed (images_of s.images) test l.v c.loop-v-test.true yes)
 
@@ -25,7 +25,7 @@ pub loop-v-preserved : goal.loop-v-preserved
 loop-v-preserved c =
     let l = c.loop-v in
     let s = c.args in
-    let test : ℕ → Bool = in_row (take s.relations s.widths) s.query.size s.query.relations s.query.cells in
+    let test : ℕ → Bool = in_row (widths_in s.schema) s.query.size s.query.relations s.query.cells in
     let asked = sym c.rows_have.ensures in
     let low = c.loop-v-test.true in (
       search rules,
@@ -45,5 +45,5 @@ pub returns : goal.returns
 returns c =
     let l = c.loop-v in
     let s = c.args in
-    let test : ℕ → Bool = in_row (take s.relations s.widths) s.query.size s.query.relations s.query.cells in
+    let test : ℕ → Bool = in_row (widths_in s.schema) s.query.size s.query.relations s.query.cells in
     finished (left_as l.invariant.1 (images-end (images_of s.images) test l.v c.loop-v-test.false))

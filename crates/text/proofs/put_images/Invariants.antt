@@ -1,7 +1,7 @@
 -- `text::put_images` meets its contract. Invariant: the images from variable v on are left to be written. Assumes nothing.
 use mathlib.Core.Bool.{Bool}
 use Prim.Native.Nat.{ℕ, ◌-◌, ◌≤◌}
-use lib.ListN.{take}
+use Rattle.limits.specs.Schema.{widths_in}
 use Rattle.query.specs.View.{images_of}
 use Rattle.printing.proofs.Writing.{Progress}
 use Rattle.lists.specs.Numbers.{numbers_where}
@@ -11,6 +11,6 @@ use Rattle.text.proofs.put_images.Given as goal
 
 abbrev pub invariant-loop-v : goal.invariant-loop-v
 invariant-loop-v l =
-    let test : ℕ → Bool = in_row (take l.relations l.widths) l.size l.named l.cells in
+    let test : ℕ → Bool = in_row (widths_in l.schema) l.fn.query.size l.fn.query.relations l.fn.query.cells in
     (l.v ≤ 96)
-    × Progress l.initial.buffer l.at (images_text (images_of l.images) (numbers_where test 0 96)) (images_text (images_of l.images) (numbers_where test l.v (96 - l.v))) l.buffer l.next
+    × Progress l.initial.buffer l.at (images_text (images_of l.fn.images) (numbers_where test 0 96)) (images_text (images_of l.fn.images) (numbers_where test l.v (96 - l.v))) l.buffer l.next

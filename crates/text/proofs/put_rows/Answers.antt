@@ -1,9 +1,11 @@
 -- `text::put_rows` meets its contract. Invariant: the rows from r on are left to be written. Assumes nothing.
 use borrow.Author.Rules.{rules}
-use Prim.Native.Nat.{◌*◌, ◌≤◌}
+use mathlib.Core.Path.{◌≡◌}
+use Prim.Native.Nat.{◌*◌, ◌<◌}
 use native.Mathlib.Omega.{arith}
-use lib.ListN.{take, drop, get_or}
+use lib.ListN.{length, take, drop, get_or, length-take}
 use Rattle.lists.proofs.Loops.{mapped-length}
+use Rattle.limits.specs.Schema.{widths_in}
 use Rattle.query.proofs.Good.{good-query}
 use Rattle.query.proofs.Relations.{width-le}
 use Rattle.printing.proofs.Writing.{started, part-fits, wrote, finished, left_as, same_size}
@@ -11,53 +13,38 @@ use Rattle.text.proofs.Turns.{rows-turn, rows_end}
 use Rattle.text.proofs.put_rows.Goals as goal
 
 pub loop-r-init : goal.loop-r-init
-loop-r-init c =
-    let s = c in
-    (search rules, (good-query 12 _ _ s.requires.2).size, search (mapped-length, rules), started s.requires.0)
+loop-r-init c = started c.requires.0
+
+pub slice_bounds-row-end : goal.slice_bounds-row-end
+slice_bounds-row-end c =
+    let q = c.args.query in
+    let cells : length q.cells ≡ 96 = search (mapped-length, rules) in
+    let low : c.loop-r.r < q.size = omega (arith, length-take q.size q.relations) in
+    omega (arith, (good-query 12 _ _ c.requires.1).size, c.width_of-width.ensures, width-le _ _ c.args.schema.good (get_or (take q.size q.relations) c.loop-r.r 0))
 
 pub put_row_line-next-requires : goal.put_row_line-next-requires
 put_row_line-next-requires c =
-    let row = c.row_cells-row in
-    let width = c.width_of-width in
-    let l = c.loop-r in
-    let low = c.loop-r-test.true in
-    let s = c in
-    let schema = take s.args.relations s.args.widths in
-    let narrow : width.result ≤ 8 = omega (arith, width.ensures, width-le _ _ s.requires.1 (get_or s.args.query.relations l.r 0)) in (
-      part-fits l.invariant.3 _ _
-          (rows-turn schema s.args.query.relations s.args.query.cells s.args.query.size l.r low (omega (arith, l.invariant.1, l.invariant.2))
-          width.result
-          width.ensures narrow row.result
-          row.ensures),
-      narrow,
-    )
+    let q = c.args.query in
+    let named = take q.size q.relations in
+    part-fits c.loop-r.invariant _ _
+    (rows-turn (widths_in c.args.schema) named q.cells c.loop-r.r c.loop-r-test.true c.width_of-width.result c.width_of-width.ensures)
 
 pub loop-r-preserved : goal.loop-r-preserved
 loop-r-preserved c =
-    let row = c.row_cells-row in
-    let width = c.width_of-width in
-    let l = c.loop-r in
-    let low = c.loop-r-test.true in
-    let s = c in
-    let schema = take s.args.relations s.args.widths in
-    let narrow : width.result ≤ 8 = omega (arith, width.ensures, width-le _ _ s.requires.1 (get_or s.args.query.relations l.r 0)) in (
-      search rules,
-      search rules,
-      search rules,
-      wrote l.invariant.3 _
-          (rows-turn schema s.args.query.relations s.args.query.cells s.args.query.size l.r low (omega (arith, l.invariant.1, l.invariant.2))
-          width.result
-          width.ensures narrow row.result
-          row.ensures)
-          c.put_row_line-next.ensures,
-    )
+    let q = c.args.query in
+    let named = take q.size q.relations in
+    wrote c.loop-r.invariant _
+    (rows-turn (widths_in c.args.schema) named q.cells c.loop-r.r c.loop-r-test.true c.width_of-width.result c.width_of-width.ensures)
+    c.put_row_line-next.ensures
 
 pub shape_of-buffer : goal.shape_of-buffer
-shape_of-buffer c = same_size c.loop-r.invariant.3
+shape_of-buffer c = same_size c.loop-r.invariant
 
 pub returns : goal.returns
 returns c =
-    let l = c.loop-r in
-    let s = c.args in
-    let rest = drop (8 * l.r) s.query.cells in
-    finished (left_as l.invariant.3 (rows_end (take s.relations s.widths) s.query.relations rest s.query.size l.r c.loop-r-test.false))
+    let q = c.args.query in
+    let named = take q.size q.relations in
+    finished (left_as c.loop-r.invariant (rows_end (widths_in c.args.schema) named (drop (8 * c.loop-r.r) q.cells) c.loop-r.r c.loop-r-test.false))
+
+pub shared_ref_as_front-relation-items : goal.shared_ref_as_front-relation-items
+shared_ref_as_front-relation-items c = (good-query 12 _ _ c.requires.1).size

@@ -10,6 +10,7 @@ use lib.ListN.{length, take}
 use borrow.Author.Tests.{ne_eqb}
 use Rattle.lists.proofs.Loops.{mapped-length}
 use Rattle.theory.specs.Query as theory
+use Rattle.limits.specs.Schema.{widths_in}
 use Rattle.query.specs.View.{entries_of, query_of, images_of}
 use Rattle.query.specs.Rule.{head_safe}
 use Rattle.query.proofs.Good.{good-query}
@@ -27,7 +28,7 @@ use Rattle.text.proofs.write_place.Goals as goal
 use Rattle.text.proofs.write_place.Goals.{Start}
 
 abbrev schema : Start → List ℕ
-schema c = take c.args.relations c.args.widths
+schema c = widths_in c.args.schema
 
 abbrev source : Start → theory.Query
 source c = query_of (schema c) c.args.source
@@ -49,7 +50,7 @@ text-fits : (c : Start) → Fits c.args.buffer.now c.args.at (text c)
 text-fits c =
     let p = c.requires in
     let short =
-    place_short c.args.relations c.args.widths p.relations-good c.args.place c.args.source c.args.res c.args.count
+    place_short c.args.schema.relations c.args.schema.widths c.args.schema.good c.args.place c.args.source c.args.res c.args.count
     c.args.images p.place-known
     p.source-good p.result-good (source-long c) (result-long c) c.ranges.count.fits p.images-good in
     record { room = omega (arith, p.room) }
@@ -68,7 +69,7 @@ never-left c z =
 variables : (c : Start) → variables_in_rows (source c) ≡ occurring (source c)
 unfolding head_safe
 variables c =
-    rows-occurring (source c) (variables-below 12 (schema c) (width-le _ _ c.requires.relations-good) c.args.source c.requires.source-good)
+    rows-occurring (source c) (variables-below 12 (schema c) (width-le _ _ c.args.schema.good) c.args.source c.requires.source-good)
     (λ v at. subset-true _ _ c.requires.source-safe v at)
 
 -- Else the four parts are left
@@ -98,22 +99,25 @@ put_place_line-next-requires c = part-fits (lines_left (goal.at.put_place_line-n
 pub put_head_line-next-requires : goal.put_head_line-next-requires
 put_head_line-next-requires c =
     let left = wrote (lines_left (goal.at.put_head_line-next-requires c).Start c.if-kept-eq0.false) _ refl c.put_place_line-next.ensures in
-    (part-fits left _ _ refl, (good-query 12 _ _ c.requires.result-good).arity)
+    part-fits left _ _ refl
 
 pub put_rows-next-requires : goal.put_rows-next-requires
 put_rows-next-requires c =
     let left = wrote (wrote (lines_left (goal.at.put_rows-next-requires c).Start c.if-kept-eq0.false) _ refl c.put_place_line-next.ensures) _ refl
     c.put_head_line-next.ensures in
-    (part-fits left _ _ refl, c.requires.relations-good, c.requires.result-good)
+    (part-fits left _ _ refl, c.requires.result-good)
 
 pub put_map_line-requires : goal.put_map_line-requires
 put_map_line-requires c =
     let left = wrote (wrote (lines_left (goal.at.put_map_line-requires c).Start c.if-kept-eq0.false) _ refl c.put_place_line-next.ensures) _ refl
     c.put_head_line-next.ensures in
-    (rest-fits (wrote left _ refl c.put_rows-next.ensures), c.requires.relations-good, (good-query 12 _ _ c.requires.source-good).size)
+    (rest-fits (wrote left _ refl c.put_rows-next.ensures), (good-query 12 _ _ c.requires.source-good).size)
 
 pub returns : goal.returns
 returns c =
     let left = wrote (wrote (lines_left (goal.at.returns c).Start c.if-kept-eq0.false) _ refl c.put_place_line-next.ensures) _ refl
     c.put_head_line-next.ensures in
     wrote-rest (wrote left _ refl c.put_rows-next.ensures) c.put_map_line.ensures
+
+pub shared_ref_as_front-head : goal.shared_ref_as_front-head
+shared_ref_as_front-head c = (good-query 12 _ _ c.requires.result-good).arity

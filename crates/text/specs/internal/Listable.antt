@@ -1,10 +1,12 @@
 -- What the functions that write are given: stored rows, images and queries, and what may be listed.
-use Rattle.std.specs.Prelude.{◌≡◌, true, List, ℕ, ◌+◌, ◌≤◌, ◌<◌, length, take}
+use Rattle.std.specs.Prelude.{◌≡◌, true, List, ℕ, ◌+◌, ◌≤◌, ◌<◌, length}
 use Rattle.query.specs.declared.Cell.{Cell}
 use Rattle.query.specs.Types.{Query}
 use Rattle.query.specs.View.{entries_of}
 use Rattle.lists.specs.Tests.{every}
-use Rattle.query.specs.Rule.{good_relations, good_cell, good_query, head_safe}
+use Rattle.limits.specs.Schema.{widths_in}
+use Rattle.limits.specs.declared.schema.Schema.{Schema}
+use Rattle.query.specs.Rule.{good_cell, good_query, head_safe}
 use Rattle.theory.specs.Query as theory
 use Rattle.lists.specs.Numbers.{numbers_where}
 
@@ -21,11 +23,10 @@ abbrev pub place_room : ℕ
 place_room = 2702
 
 -- What may be listed: a place of the record, two good queries, the first with a safe head, images that are good entries, and a buffer with room for the text
-pub record Listable (buffer : List ℕ) (at place relations : ℕ) (widths : List ℕ) (source result : Query) (images : List Cell) : Type 0 where
+pub record Listable (buffer : List ℕ) (at place : ℕ) (schema : Schema) (source result : Query) (images : List Cell) : Type 0 where
   pub room : at + place_room ≤ length buffer
   pub place-known : place < 8
-  pub relations-good : good_relations relations widths ≡ true
-  pub source-good : good_query (take relations widths) source ≡ true
-  pub source-safe : head_safe (take relations widths) source ≡ true
-  pub result-good : good_query (take relations widths) result ≡ true
+  pub source-good : good_query (widths_in schema) source ≡ true
+  pub source-safe : head_safe (widths_in schema) source ≡ true
+  pub result-good : good_query (widths_in schema) result ≡ true
   pub images-good : every good_cell images ≡ true
