@@ -1,8 +1,10 @@
 -- What `all` and `any` over a chain tell, where the closure's result tells of each element. For any elements.
 -- Assumes nothing.
-use mathlib.Core.Path.{◌≡◌, sym, ◌∙◌, ap₂, subst}
+use mathlib.Core.Path.{◌≡◌, sym, ◌∙◌, ap, ap₂, subst}
 use mathlib.Core.Bool.{Bool, true, false}
+use mathlib.Core.Logic.{◌↔◌}
 use mathlib.Core.List.{List}
+use lib.Seq.{ext_get_or}
 use Prim.Native.Nat.{ℕ, ◌+◌, ◌-◌, ◌≤◌, ◌<◌}
 use native.Mathlib.Omega.{arith}
 use lib.ListN.{length, take, drop, get_or, length-take, length-drop}
@@ -63,3 +65,28 @@ all-parts {A} {B} P a b n xs ys d e r h k found = ((λ t i l. pair i l ((tells.0
 
     back : (i : ℕ) → i < n → P (get_or xs (a + i) d, get_or ys (b + i) e) → P (get_or zs i (d, e))
     back i l p = subst P (sym (at i l)) p
+
+-- `any` over a part
+pub any-part : {A : Type 0} (P : A → Type 0) (a n : ℕ) (xs : List A) (d : A) (r : Bool) → a + n ≤ length xs
+    → (let zs = part a n xs in MatchBool r ((k : ℕ) × (k < length zs) × HoldsAt P zs k) (AllWithin (λ x. P x → ⊥) zs 0 (length zs)))
+    → Tells r ((i : ℕ) × (i < n) × P (get_or xs (a + i) d))
+any-part {A} P a n xs d r h found = ((λ t. there (tells.0 t)), (λ w. tells.1 (back w)))
+  where
+    tells : Tells r ((i : ℕ) × (i < length (part a n xs)) × P (get_or (part a n xs) i d))
+    tells = any-tells P (part a n xs) d r found
+
+    there : ((i : ℕ) × (i < length (part a n xs)) × P (get_or (part a n xs) i d)) → (i : ℕ) × (i < n) × P (get_or xs (a + i) d)
+    there w = let l : w.0 < n = rw (← part-length a n xs h) w.1 in (w.0, l, subst P (part-at a n xs d w.0 l) w.2)
+
+    back : ((i : ℕ) × (i < n) × P (get_or xs (a + i) d)) → (i : ℕ) × (i < length (part a n xs)) × P (get_or (part a n xs) i d)
+    back w = let l : w.0 < n = w.1 in (w.0, rw (part-length a n xs h) l, subst P (sym (part-at a n xs d w.0 l)) w.2)
+
+-- Two parts are the same where they are the same at each place
+pub same-parts : {A : Type 0} (a b n : ℕ) (xs ys : List A) (d : A) → a + n ≤ length xs → b + n ≤ length ys
+    → ((part a n xs ≡ part b n ys) ↔ ((i : ℕ) → i < n → get_or xs (a + i) d ≡ get_or ys (b + i) d))
+same-parts a b n xs ys d h k = (
+  (λ e i l. sym (part-at a n xs d i l) ∙ ap (λ zs. get_or zs i d) e ∙ part-at b n ys d i l),
+  (λ same.
+      ext_get_or d (part a n xs) (part b n ys) (part-length a n xs h ∙ sym (part-length b n ys k))
+      (λ i l. let m : i < n = rw (← part-length a n xs h) l in part-at a n xs d i m ∙ same i m ∙ sym (part-at b n ys d i m))),
+)

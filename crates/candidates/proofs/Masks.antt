@@ -1,6 +1,9 @@
 -- Masks made bit by bit from the highest down: each turn doubles the mask and adds the next lower bit.
 -- Assumes nothing.
 use Rattle.consistency.specs.internal.Solution.{Bit as Has}
+use mathlib.Core.Bool.{Bool, true, false, false≢true}
+use Rattle.std.specs.Int.{from_bool}
+use Rattle.lists.specs.internal.Tells.{Tells}
 use mathlib.Core.Path.{◌≡◌, refl, sym, ◌∙◌, ap, subst}
 use mathlib.Core.Logic.{◌↔◌, ◌⊎◌, inl, inr}
 use Prim.Native.Nat.{ℕ, zero, suc, ◌+◌, ◌-◌, ◌*◌, ◌/◌, ◌%◌, ◌^◌, ◌≤◌, ◌<◌}
@@ -8,7 +11,7 @@ use native.Mathlib.Nat.{div-div-eq-div-mul, pow-succ', not-suc-le-zero, le_of_su
 use lib.Pow.{pow_mono}
 use native.Mathlib.Omega.{arith}
 use Rattle.lists.proofs.Tests.{below-or-past}
-use Rattle.candidates.specs.internal.Candidates.{Marks}
+use Rattle.candidates.specs.internal.Candidates.{Marks, Tested}
 
 -- The lowest bit of a doubled mask is the added one
 has-lowest : (m b : ℕ) → b < 2 → (m * 2 + b) / 2 ^ 0 % 2 ≡ b
@@ -50,46 +53,80 @@ has-below n m e h has = go (below-or-past e n)
     go (inl k) = k
     go (inr k) = let z : ◌≡◌ {A = ℕ} 0 1 = gone k in absurd (omega arith)
 
+-- All numbers below n
+pub all-marks : (n : ℕ) → Marks n (2 ^ n - 1) (λ e. Unit {0})
+all-marks zero = marks-none (λ e. Unit {0})
+all-marks (suc n) =
+    let low : 0 ≤ n = omega arith in
+    let some : 2 ^ 0 ≤ 2 ^ n = pow_mono low in
+    let twice : 2 ^ suc n ≡ 2 * 2 ^ n = pow-succ' 2 n in
+    let same : (2 ^ n - 1) * 2 + 1 ≡ 2 ^ suc n - 1 = omega arith in
+    subst (λ (m : ℕ). Marks (suc n) m (λ e. Unit {0})) same
+    (marks-more n (2 ^ n - 1) 1 (λ e. Unit {0}) (omega arith) ((λ e. tt), (λ u. refl)) (all-marks n))
+
+-- ---- what a test answers
+
+-- Where the answers tell P, the mask is of those with P
+pub marks-tested : (R : ℕ → Bool → Type 0) (P : ℕ → Type 0) (n m : ℕ) → ((e : ℕ) (b : Bool) → e < n → R e b → Tells b (P e)) → Tested R n m → Marks n m P
+marks-tested R P n m tells tested = (
+  tested.0,
+  (λ e h.
+      let t = tested.1 e h in
+      let told = tells e t.0 h t.1 in
+      ((λ has. told.0 (t.2.1 has)), (λ p. t.2.0 (told.1 p)))),
+)
+
+tested-none : (R : ℕ → Bool → Type 0) → Tested R 0 0
+tested-none R = (omega arith, λ e h. absurd (not-suc-le-zero h))
+
+bit-small : (b : Bool) → from_bool b < 2
+bit-small true = omega arith
+bit-small false = omega arith
+
+bit-true : (b : Bool) → (b ≡ true) ↔ (from_bool b ≡ 1)
+bit-true true = ((λ e. refl), (λ e. refl))
+bit-true false = ((λ e. absurd (false≢true e)), (λ e. absurd (omega arith)))
+
+-- One more bit, below the others
+tested-more : (R : ℕ → Bool → Type 0) (n m : ℕ) (b : Bool) → R 0 b → Tested (λ e. R (suc e)) n m → Tested R (suc n) (m * 2 + from_bool b)
+tested-more R n m b here later = (doubled-lt n m (from_bool b) later.0 (bit-small b), each)
+  where
+    each : (e : ℕ) → e < suc n → (b' : Bool) × R e b' × ((b' ≡ true) ↔ Has (m * 2 + from_bool b) e)
+    each zero h =
+        let t = bit-true b in
+        (b, here, ((λ x. has-lowest m (from_bool b) (bit-small b) ∙ t.0 x), (λ x. t.1 (sym (has-lowest m (from_bool b) (bit-small b)) ∙ x))))
+    each (suc e) h =
+        let w = later.1 e (le_of_suc-le-suc h) in
+        let same = has-higher m (from_bool b) e (bit-small b) in
+        (w.0, w.1, ((λ x. same ∙ w.2.0 x), (λ x. w.2.1 (sym same ∙ x))))
+
 -- ---- as a loop makes them, from number c down to 0
 
 -- A mask for the numbers from e on, with the number before them
-pub marks-down : (P : ℕ → Type 0) (c e m b : ℕ) → 0 < e → e ≤ c → b < 2 → ((b ≡ 1) ↔ P (e - 1))
-    → Marks (c - e) m (λ i. P (e + i)) → Marks (c - (e - 1)) (m * 2 + b) (λ i. P (e - 1 + i))
-marks-down P c e m b pos le small first later =
+pub tested-down : (R : ℕ → Bool → Type 0) (c e m : ℕ) (b : Bool) → 0 < e → e ≤ c → R (e - 1) b → Tested (λ i. R (e + i)) (c - e) m
+    → Tested (λ i. R (e - 1 + i)) (c - (e - 1)) (m * 2 + from_bool b)
+tested-down R c e m b pos le here later =
     let longer : suc (c - e) ≡ c - (e - 1) = omega arith in
     let front : e - 1 ≡ e - 1 + 0 = omega arith in
-    subst (λ (n : ℕ). Marks n (m * 2 + b) (λ i. P (e - 1 + i))) longer
-    (marks-more (c - e) m b (λ i. P (e - 1 + i)) small
-    ((λ x. subst P front (first.0 x)), (λ p. first.1 (subst P (sym front) p))) (
+    subst (λ (n : ℕ). Tested (λ i. R (e - 1 + i)) n (m * 2 + from_bool b)) longer
+    (tested-more (λ i. R (e - 1 + i)) (c - e) m b (subst (λ (k : ℕ). R k b) front here) (
       later.0,
       (λ i h.
           let step : e + i ≡ e - 1 + suc i = omega arith in
-          ((λ x. subst P step ((later.1 i h).0 x)), (λ p. (later.1 i h).1 (subst P (sym step) p)))),
+          let w = later.1 i h in
+          (w.0, subst (λ (k : ℕ). R k w.0) step w.1, w.2)),
     ))
 
--- Where the next number is marked, and where it is not
-pub marks-one : (P : ℕ → Type 0) (c e m : ℕ) → 0 < e → e ≤ c → P (e - 1) → Marks (c - e) m (λ i. P (e + i))
-    → Marks (c - (e - 1)) (m * 2 + 1) (λ i. P (e - 1 + i))
-marks-one P c e m pos le p later = marks-down P c e m 1 pos le (omega arith) ((λ x. p), (λ x. refl)) later
-
-pub marks-zero : (P : ℕ → Type 0) (c e m : ℕ) → 0 < e → e ≤ c → (P (e - 1) → ⊥) → Marks (c - e) m (λ i. P (e + i))
-    → Marks (c - (e - 1)) (m * 2) (λ i. P (e - 1 + i))
-marks-zero P c e m pos le n later =
-    let same : m * 2 + 0 ≡ m * 2 = omega arith in
-    subst (λ (x : ℕ). Marks (c - (e - 1)) x (λ i. P (e - 1 + i))) same
-    (marks-down P c e m 0 pos le (omega arith) ((λ x. let z : ◌≡◌ {A = ℕ} 0 1 = x in absurd (omega arith)), (λ p. absurd (n p))) later)
-
 -- The loop's start and its end
-pub marks-start : (P : ℕ → Type 0) (c : ℕ) → Marks (c - c) 0 (λ i. P (c + i))
-marks-start P c = let none : 0 ≡ c - c = omega arith in subst (λ (n : ℕ). Marks n 0 (λ i. P (c + i))) none (marks-none (λ i. P (c + i)))
+pub tested-start : (R : ℕ → Bool → Type 0) (c : ℕ) → Tested (λ i. R (c + i)) (c - c) 0
+tested-start R c = let none : 0 ≡ c - c = omega arith in subst (λ (n : ℕ). Tested (λ i. R (c + i)) n 0) none (tested-none (λ i. R (c + i)))
 
-pub marks-end : (P : ℕ → Type 0) (c e m : ℕ) → e ≤ 0 → Marks (c - e) m (λ i. P (e + i)) → Marks c m P
-marks-end P c e m le later =
+pub tested-end : (R : ℕ → Bool → Type 0) (c e m : ℕ) → e ≤ 0 → Tested (λ i. R (e + i)) (c - e) m → Tested R c m
+tested-end R c e m le later =
     let all : c - e ≡ c = omega arith in
     let front : (i : ℕ) → e + i ≡ i = λ i. omega arith in
-    subst (λ (n : ℕ). Marks n m P) all
-    (later.0, (λ i h. ((λ x. subst P (front i) ((later.1 i h).0 x)), (λ p. (later.1 i h).1 (subst P (sym (front i)) p)))))
+    subst (λ (n : ℕ). Tested R n m) all (later.0, (λ i h. let w = later.1 i h in (w.0, subst (λ (k : ℕ). R k w.0) (front i) w.1, w.2)))
 
 -- A mask of at most 24 bits that can take one more is below 8,388,608
-pub marks-room : (P : ℕ → Type 0) (c e m : ℕ) → c ≤ 24 → 0 < e → e ≤ c → Marks (c - e) m P → m < 8388608
-marks-room P c e m h pos le marks = let n : c - e ≤ 23 = omega arith in le_trans marks.0 (pow_mono n)
+pub tested-room : (R : ℕ → Bool → Type 0) (c e m : ℕ) → c ≤ 24 → 0 < e → e ≤ c → Tested R (c - e) m → m < 8388608
+tested-room R c e m h pos le tested = let n : c - e ≤ 23 = omega arith in le_trans tested.0 (pow_mono n)

@@ -11,14 +11,11 @@ pub fn takes(source: &[u32], target: &[u32], value: u32, image: u32, q: usize, e
     requires { (q + 8 ≤ length source.now) × (e + 8 ≤ length target.now) }
     ensures { Tells result (Takes source.now target.now value image q e) }
 {
-    for j in 0..8 {
-        if source[q + j] == value {
-            if target[e + j] != image {
-                return false;
-            }
-        }
-    }
-    true
+    let row = &source[q..q + 8];
+    let images = &target[e..e + 8];
+    row.iter()
+        .zip(images)
+        .all(|(&code, &own)| code != value || own == image)
 }
 
 // Whether the rows at r and q, with their images at d and e, take each variable that they share to one entry.
@@ -26,19 +23,14 @@ pub fn agrees(source: &[u32], target: &[u32], r: usize, d: usize, q: usize, e: u
     requires { (r + 8 ≤ length source.now) × (d + 8 ≤ length target.now) × (q + 8 ≤ length source.now) × (e + 8 ≤ length target.now) }
     ensures { Tells result (Agrees source.now target.now r d q e) }
 {
-    for i in 0..8 {
-        let value = source[r + i];
-        let own = Entry::from(value);
-        match own {
-            Entry::Constant(_) => {}
-            Entry::Variable(_) => {
-                if !takes(source, target, value, target[d + i], q, e) {
-                    return false;
-                }
-            }
-        }
-    }
-    true
+    let row = &source[r..r + 8];
+    let images = &target[d..d + 8];
+    row.iter()
+        .zip(images)
+        .all(|(&value, &image)| match Entry::from(value) {
+            Entry::Constant(_) => true,
+            Entry::Variable(_) => takes(source, target, value, image, q, e),
+        })
 }
 
 // Whether the entry of code `value` stands in the row at q.
@@ -46,12 +38,7 @@ pub fn holds(source: &[u32], value: u32, q: usize) -> bool
     requires { q + 8 ≤ length source.now }
     ensures { Tells result (Holds source.now value q) }
 {
-    for j in 0..8 {
-        if source[q + j] == value {
-            return true;
-        }
-    }
-    false
+    source[q..q + 8].contains(&value)
 }
 
 // Whether the rows at r and q share a variable. If not, all images of theirs agree.
@@ -59,19 +46,11 @@ pub fn shares(source: &[u32], r: usize, q: usize) -> bool
     requires { (r + 8 ≤ length source.now) × (q + 8 ≤ length source.now) }
     ensures { Tells result (Shares source.now r q) }
 {
-    for i in 0..8 {
-        let value = source[r + i];
-        let own = Entry::from(value);
-        match own {
-            Entry::Constant(_) => {}
-            Entry::Variable(_) => {
-                if holds(source, value, q) {
-                    return true;
-                }
-            }
-        }
-    }
-    false
+    let row = &source[r..r + 8];
+    row.iter().any(|&value| match Entry::from(value) {
+        Entry::Constant(_) => false,
+        Entry::Variable(_) => holds(source, value, q),
+    })
 }
 
 // Whether the image at d has each constant of the row at r in its place.
@@ -79,19 +58,14 @@ pub fn fixes(source: &[u32], target: &[u32], r: usize, d: usize) -> bool
     requires { (r + 8 ≤ length source.now) × (d + 8 ≤ length target.now) }
     ensures { Tells result (Fixes source.now target.now r d) }
 {
-    for i in 0..8 {
-        let value = source[r + i];
-        let own = Entry::from(value);
-        match own {
-            Entry::Constant(_) => {
-                if target[d + i] != value {
-                    return false;
-                }
-            }
-            Entry::Variable(_) => {}
-        }
-    }
-    true
+    let row = &source[r..r + 8];
+    let images = &target[d..d + 8];
+    row.iter()
+        .zip(images)
+        .all(|(&value, &image)| match Entry::from(value) {
+            Entry::Constant(_) => image == value,
+            Entry::Variable(_) => true,
+        })
 }
 
 // Whether the rows at a and b are the same.
@@ -99,10 +73,5 @@ pub fn same_row(target: &[u32], a: usize, b: usize) -> bool
     requires { (a + 8 ≤ length target.now) × (b + 8 ≤ length target.now) }
     ensures { Tells result (SameRow target.now a b) }
 {
-    for i in 0..8 {
-        if target[a + i] != target[b + i] {
-            return false;
-        }
-    }
-    true
+    target[a..a + 8] == target[b..b + 8]
 }

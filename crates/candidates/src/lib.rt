@@ -2,4 +2,5 @@
 #![tactic(auto)]
 
 mod agree; // agree.rt: whether images of two rows are consistent
+pub mod marks; // marks.rt: masks of the numbers that pass a test
 pub mod table; // table.rt: the candidates, and the table of those that go together

@@ -6,6 +6,7 @@ ghost use Rattle.candidates.specs.internal.Candidates.{Marks, Repeats, row_start
 ghost use Rattle.candidates.specs.internal.Sharing.{Shares, IsPair, Keeps};
 
 use crate::agree::{agrees, fixes, same_row, shares};
+use crate::marks::{all_below, marks_where};
 
 // Where the numbers of row r start: the head's after those of 12 rows.
 pub fn row_at(size: usize, r: usize) -> usize
@@ -47,17 +48,9 @@ fn together(
     let row = row_at(size, r);
     let image = image_at(size, r, d);
     let other = row_at(size, q);
-    let mut mask: u32 = 0;
-    let mut e = candidates(size, count, q);
-    while 0 < e {
-        e -= 1;
-        if agrees(source, target, row, image, other, image_at(size, q, e)) {
-            mask = mask * 2 + 1;
-        } else {
-            mask = mask * 2;
-        }
-    }
-    mask
+    marks_where(candidates(size, count, q), |e| {
+        agrees(source, target, row, image, other, image_at(size, q, e))
+    })
 }
 
 // Whether row d of the target is the same as an earlier one.
@@ -65,6 +58,7 @@ pub fn repeats(target: &[u32], offered: [u8; 24], d: usize) -> bool
     requires { (length target.now ≡ 200) × (d < 24) }
     ensures { Tells result (Repeats target.now offered d) }
 {
+    // Kept as it is: the index serves both the relations and the target's rows, which start 8 apart.
     for e in 0..d {
         if offered[e] == offered[d] {
             if same_row(target, 8 * e, 8 * d) {
@@ -117,17 +111,9 @@ fn domain(
     requires { Laid source.now target.now size count × (r ≤ size) }
     ensures { Marks (candidates_of size count r) result (Possible source.now target.now named offered size r) }
 {
-    let mut mask: u32 = 0;
-    let mut d = candidates(size, count, r);
-    while 0 < d {
-        d -= 1;
-        if possible(source, target, named, offered, size, r, d) {
-            mask = mask * 2 + 1;
-        } else {
-            mask = mask * 2;
-        }
-    }
-    mask
+    marks_where(candidates(size, count, r), |d| {
+        possible(source, target, named, offered, size, r, d)
+    })
 }
 
 // The candidates of every row.
@@ -147,20 +133,6 @@ pub fn domains(
         all[r] = domain(source, target, named, offered, size, count, r);
     }
     all
-}
-
-// A mask of the numbers below n.
-fn all_below(n: usize) -> u32
-    requires { n ≤ 24 }
-    ensures { Marks n result (λ e. Unit {0}) }
-{
-    let mut mask: u32 = 0;
-    let mut e = n;
-    while 0 < e {
-        e -= 1;
-        mask = mask * 2 + 1;
-    }
-    mask
 }
 
 // The candidates of row q that go together with candidate d of row r, where it is known whether the rows share a variable.

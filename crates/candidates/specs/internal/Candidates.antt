@@ -1,6 +1,6 @@
 -- Rows as codes of entries, 8 to a row: a code from 2,147,483,648 on is a variable's, a smaller one a constant's.
 -- First when images of rows are consistent, then the rows, candidates, masks and table that the search is given.
-use Rattle.std.specs.Prelude.{◌≡◌, cond, List, ◌↔◌, ℕ, ◌+◌, ◌*◌, ◌^◌, ◌≤◌, ◌<◌, eqb, get_or, length}
+use Rattle.std.specs.Prelude.{◌≡◌, Bool, true, cond, List, ◌↔◌, ℕ, ◌+◌, ◌*◌, ◌^◌, ◌≤◌, ◌<◌, eqb, get_or, length}
 use Rattle.consistency.specs.internal.Solution.{Bit as Has, together as goes}
 
 -- The row at q, with its image at e, takes the code `value` to `image` wherever it has it
@@ -27,6 +27,10 @@ Repeats target offered d = (e : ℕ) × (e < d) × (get_or offered e 0 ≡ get_o
 -- A mask of n bits that says of which numbers P holds
 abbrev pub Marks : ℕ → ℕ → (ℕ → Type 0) → Type 0
 Marks n mask P = (mask < 2 ^ n) × ((e : ℕ) → e < n → (Has mask e ↔ P e))
+
+-- A mask of n bits that say what a test answers of each number
+abbrev pub Tested : (ℕ → Bool → Type 0) → ℕ → ℕ → Type 0
+Tested answers n mask = (mask < 2 ^ n) × ((e : ℕ) → e < n → (b : Bool) × answers e b × ((b ≡ true) ↔ Has mask e))
 
 -- ---- the rows of a source and their candidates in a target: rows 0 to size - 1 are the source's rows, row `size` is its head
 

@@ -1,28 +1,15 @@
--- `fixes` tells whether the image has the row's constants. The invariant: it has those of the columns passed.
+-- `fixes` tells whether the image has the row's constants.
 -- Assumes nothing.
-use borrow.Author.Rules.{rules}
-use borrow.Author.Count.{below_more}
-use mathlib.Core.Path.{sym, ◌∙◌}
-use native.Mathlib.Nat.{not-le_of_lt}
-use Rattle.query.proofs.Codes.{code-constant, code-variable}
-use Rattle.lists.proofs.Positions.{tells-true, tells-false}
+use Rattle.std.proofs.Common.{rules, tests, ℕ, ◌≡◌, ◌<◌, arith}
+use Rattle.std.proofs.lemmas.Iterator.{YieldsList-from_slice, YieldsList-from_zip, cases_from_all}
+use Rattle.candidates.proofs.Chained.{part, all-parts}
 use Rattle.candidates.proofs.agree.fixes.Goals as goal
-use Rattle.candidates.proofs.agree.fixes.Goals.{in-Constant+else-target-d, in-Variable}
-
-pub returns-then-target-d : goal.returns-then-target-d
-returns-then-target-d c =
-    let small = code-constant _ _ (sym c.from-own.ensures ∙ c.in-Constant.is) in
-    tells-false (λ p. c.if-target-d.true (p c.loop-i.i (search rules) small))
-
-pub loop-i-preserved : goal.loop-i-preserved
-loop-i-preserved c = (
-  search rules,
-  below_more _ _ c.loop-i.invariant.1
-      (elim c.match-own.branch [
-        | in-Constant+else-target-d w ↦ λ e. w.if-target-d.false
-        | in-Variable w ↦ λ e. absurd (not-le_of_lt e (code-variable _ _ (sym c.from-own.ensures ∙ w.in-Variable.is)).0)
-      ]),
-)
 
 pub returns : goal.returns
-returns c = tells-true (λ j h. c.loop-i.invariant.1 j (search rules))
+returns c =
+    let a = c.args in
+    let P : ℕ × ℕ → Type 0 = λ p. p.0 < 2147483648 → p.1 ≡ p.0 in
+    all-parts P a.r a.d 8 a.source.now a.target.now 0 0 c.all.result c.requires.0 c.requires.1
+    (cases_from_all c.all.new.self _ _ P (λ p. P p → ⊥) c.all.ensures.ran
+    (YieldsList-from_zip (YieldsList-from_slice (part a.r 8 a.source.now) cc) (YieldsList-from_slice (part a.d 8 a.target.now) cc))
+    (λ x q k. search (rules, tests)) (λ x q k. search (rules, tests)))

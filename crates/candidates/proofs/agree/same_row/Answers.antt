@@ -1,18 +1,18 @@
--- `same_row` tells whether two rows are the same. The invariant: they are in the columns passed.
+-- `same_row` tells whether two rows are the same.
 -- Assumes nothing.
-use borrow.Author.Rules.{rules}
-use borrow.Author.Count.{below_none, below_more}
-use Rattle.lists.proofs.Positions.{tells-true, tells-false}
+use Rattle.std.proofs.Common.{◌≡◌, Bool, true, false, refl, sym, ◌∙◌}
+use mathlib.Core.Logic.{◌↔◌}
+use Rattle.std.specs.Cmp.Lexicographic.{same_text, other_text}
+use Rattle.candidates.specs.internal.Candidates.{SameRow}
+use Rattle.candidates.proofs.Chained.{part, same-parts}
 use Rattle.candidates.proofs.agree.same_row.Goals as goal
 
-pub loop-i-init : goal.loop-i-init
-loop-i-init c = (search rules, below_none _)
-
-pub returns-then-target-a : goal.returns-then-target-a
-returns-then-target-a c = tells-false (λ same. c.if-target-a.true (same c.loop-i.i (search rules)))
-
-pub loop-i-preserved : goal.loop-i-preserved
-loop-i-preserved c = (search rules, below_more _ _ c.loop-i.invariant.1 c.if-target-a.false)
-
 pub returns : goal.returns
-returns c = tells-true (λ i h. c.loop-i.invariant.1 i (search rules))
+returns c = ((λ r. same.0 (same_text _ _ (sym r ∙ c.eq.ensures))), (λ rows. go rows c.eq.result refl))
+  where
+    same : (part c.args.a 8 c.args.target.now ≡ part c.args.b 8 c.args.target.now) ↔ SameRow c.args.target.now c.args.a c.args.b
+    same = same-parts c.args.a c.args.b 8 c.args.target.now c.args.target.now 0 c.requires.0 c.requires.1
+
+    go : SameRow c.args.target.now c.args.a c.args.b → (r : Bool) → c.eq.result ≡ r → c.eq.result ≡ true
+    go rows true e = e
+    go rows false e = absurd (other_text _ _ (sym e ∙ c.eq.ensures) (same.1 rows))

@@ -1,33 +1,17 @@
--- `shares` tells whether two rows share a variable. The invariant: none of the columns passed.
+-- `shares` tells whether two rows share a variable.
 -- Assumes nothing.
-use borrow.Author.Rules.{rules}
-use borrow.Author.Count.{below_none, below_more}
-use mathlib.Core.Path.{sym, ◌∙◌}
-use mathlib.Core.Bool.{false≢true}
-use native.Mathlib.Nat.{not-le_of_lt}
-use Prim.Native.Nat.{◌<◌}
-use Rattle.query.proofs.Codes.{code-constant, code-variable}
-use Rattle.lists.proofs.Positions.{tells-true, tells-false}
+use Rattle.std.proofs.Common.{rules, tests, ℕ, ◌≤◌}
+use Rattle.std.proofs.lemmas.Iterator.{YieldsList-from_slice, cases_from_any}
+use Rattle.candidates.specs.internal.Sharing.{Holds}
+use Rattle.candidates.proofs.Chained.{part, any-part}
 use Rattle.candidates.proofs.agree.shares.Goals as goal
-use Rattle.candidates.proofs.agree.shares.Goals.{in-Constant, in-Variable+else-holds}
-
-pub loop-i-init : goal.loop-i-init
-loop-i-init c = (search rules, below_none _)
-
-pub returns-then-holds : goal.returns-then-holds
-returns-then-holds c =
-    let large = (code-variable _ _ (sym c.from-own.ensures ∙ c.in-Variable.is)).0 in
-    tells-true (c.loop-i.i, search rules, large, c.holds.ensures.0 c.if-holds.true)
-
-pub loop-i-preserved : goal.loop-i-preserved
-loop-i-preserved c = (
-  search rules,
-  below_more _ _ c.loop-i.invariant.1
-      (elim c.match-own.branch [
-        | in-Constant w ↦ λ large h. not-le_of_lt (code-constant _ _ (sym c.from-own.ensures ∙ w.in-Constant.is)) large
-        | in-Variable+else-holds w ↦ λ large h. false≢true (sym w.if-holds.false ∙ w.holds.ensures.1 h)
-      ]),
-)
 
 pub returns : goal.returns
-returns c = tells-false (λ w. c.loop-i.invariant.1 w.0 (let h : w.0 < 8 = w.1 in search rules) w.2 w.3)
+returns c =
+    let a = c.args in
+    let P : ℕ → Type 0 = λ value. (2147483648 ≤ value) × Holds a.source.now value a.q in
+    let t = any-part P a.r 8 a.source.now 0 c.any.result c.requires.0
+    (cases_from_any c.any.new.self _ _ P (λ value. P value → ⊥) c.any.ensures.ran (YieldsList-from_slice (part a.r 8 a.source.now) cc)
+    (λ x q k. search (rules, tests)) (λ x q k. search (rules, tests)))
+    in
+    ((λ e. let w = t.0 e in (w.0, w.1, w.2.0, w.2.1)), (λ w. t.1 (w.0, w.1, (w.2, w.3))))

@@ -1,17 +1,15 @@
--- `takes` tells whether the row takes the number to the image. The invariant: it does in the columns passed.
+-- `takes` tells whether the row takes the number to the image.
 -- Assumes nothing.
-use borrow.Author.Rules.{rules}
-use borrow.Author.Count.{below_more}
-use mathlib.Core.Logic.{⊎_elim}
-use Rattle.lists.proofs.Positions.{tells-true, tells-false}
+use Rattle.std.proofs.Common.{rules, tests, ℕ, ◌≡◌, arith}
+use Rattle.std.proofs.lemmas.Iterator.{YieldsList-from_slice, YieldsList-from_zip, cases_from_all}
+use Rattle.candidates.proofs.Chained.{part, all-parts}
 use Rattle.candidates.proofs.agree.takes.Goals as goal
 
-pub returns-then-target-e : goal.returns-then-target-e
-returns-then-target-e c = tells-false (λ p. c.if-target-e.true (p c.loop-j.j (search rules) c.if-source-q.true))
-
-pub loop-j-preserved : goal.loop-j-preserved
-loop-j-preserved c =
-    (search rules, below_more _ _ c.loop-j.invariant.1 (⊎_elim (λ w e. w.if-target-e.false) (λ w e. absurd (w.if-source-q.false e)) c.if-source-q.branch-raw))
-
 pub returns : goal.returns
-returns c = tells-true (λ j h. c.loop-j.invariant.1 j (search rules))
+returns c =
+    let a = c.args in
+    let P : ℕ × ℕ → Type 0 = λ p. p.0 ≡ a.value → p.1 ≡ a.image in
+    all-parts P a.q a.e 8 a.source.now a.target.now 0 0 c.all.result c.requires.0 c.requires.1
+    (cases_from_all c.all.new.self _ _ P (λ p. P p → ⊥) c.all.ensures.ran
+    (YieldsList-from_zip (YieldsList-from_slice (part a.q 8 a.source.now) cc) (YieldsList-from_slice (part a.e 8 a.target.now) cc))
+    (λ x q k. search (rules, tests)) (λ x q k. search (rules, tests)))

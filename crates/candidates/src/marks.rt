@@ -1,0 +1,24 @@
+// Masks with bit e for number e.
+ghost use Rattle.std.specs.Prelude.{ℕ, ◌<◌, ◌≤◌};
+ghost use Rattle.candidates.specs.internal.Candidates.{Marks, Tested};
+
+// The numbers below n that pass a test.
+pub fn marks_where<F: Fn(usize) -> bool>(n: usize, test: F) -> u32
+    requires few { n ≤ 24 }
+    requires callable { (e : ℕ) → e < n → F.pre test e }
+    ensures { Tested (F.post test) n result }
+{
+    let mut mask: u32 = 0;
+    for e in (0..n).rev() {
+        mask = mask * 2 + u32::from(test(e));
+    }
+    mask
+}
+
+// All numbers below n.
+pub fn all_below(n: usize) -> u32
+    requires { n ≤ 24 }
+    ensures { Marks n result (λ e. Unit {0}) }
+{
+    (1 << n) - 1
+}
