@@ -45,8 +45,7 @@ pub fn put_part(given: Record, place: usize, part: &[u8]) -> Outcome
     if 8 <= place {
         return refused(Refusal::NoSuchPlace, given);
     }
-    let widths = given.widths;
-    match decoder::read_place(part, true, given.relations, widths) {
+    match decoder::read_place(part, true, given.schema()) {
         Ok(read) => given.put(place, read.query),
         Err(refusal) => refused(refusal, given),
     }
