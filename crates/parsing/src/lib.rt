@@ -144,23 +144,15 @@ pub fn read_query(part: &[u8], schema: Schema) -> Option<(Query, &[u8])>
 
 // ---- part 0: relations
 
-// Part 0: the count of relations, then a width byte each. A part that is too short or has a bad byte is told in the loop, one that is too long after it.
+// Part 0: the count of relations, then a width byte each, and no more.
 pub fn read_relations(part: &[u8]) -> Option<Schema>
     ensures { relations_in result ≡ value_given (complete bad_relations (relations.get part.now)) }
 {
-    let count = read_byte(part, 0, 1, 8)?;
-    let n = count as usize;
-    let mut widths = [0; 8];
-    for i in 0..n {
-        widths[i] = read_byte(part, 1 + i, 1, 8)?;
-    }
-    if 1 + n < part.len() {
+    let (count, widths) = part.split_first()?;
+    if 8 < widths.len() || widths.len() != usize::from(*count) {
         return None;
     }
-    Some(Schema {
-        relations: count,
-        widths,
-    })
+    Schema::new(*count, limits::padded_widths(widths))
 }
 
 // ---- part 1: functional dependencies
@@ -185,6 +177,7 @@ fn read_dependency(part: &[u8], at: usize, schema: Schema) -> Option<Dependency>
 }
 
 // The front of part 1, and the bytes after it: the count of functional dependencies, then 3 bytes each.
+// Kept as it is: i gives both the slot and the position that is read, and `?` leaves the loop.
 pub fn read_dependencies(part: &[u8], schema: Schema) -> Option<((u8, [Dependency; 32]), &[u8])>
     ensures { reading_of result ≡ (dependencies (widths_in schema)).get part.now }
 {
@@ -236,6 +229,7 @@ fn read_join(part: &[u8], at: usize, schema: Schema) -> Option<JoinDependency>
 }
 
 // What is left of part 1 after the functional dependencies: nothing, or the count of join dependencies and each of them.
+// Kept as it is: i gives the slot, the position moves on by as many bytes as each has, and `?` leaves the loop.
 pub fn read_joins(part: &[u8], schema: Schema) -> Option<(u8, [JoinDependency; 4])>
     ensures { result ≡ value_given (read_joins (widths_in schema) part.now) }
 {
