@@ -17,14 +17,7 @@ fn same_on(codes: &[u32; 192], set: u8, i: usize, e: usize) -> bool
     requires { (i < 24) × (e < 24) }
     ensures { result ≡ same_on codes.now set i e }
 {
-    for c in 0..8usize {
-        if (set >> c) % 2 == 1 {
-            if codes[8 * i + c] != codes[8 * e + c] {
-                return false;
-            }
-        }
-    }
-    true
+    (0..8usize).all(|c| (set >> c) % 2 == 0 || codes[8 * i + c] == codes[8 * e + c])
 }
 
 // Whether row i has what is chosen in the columns of a set.
@@ -32,16 +25,9 @@ fn goes(codes: &[u32; 192], set: u8, chosen: [u32; 8], i: usize) -> bool
     requires { i < 24 }
     ensures { result ≡ goes codes.now set chosen i }
 {
-    for c in 0..8usize {
-        if (set >> c) % 2 == 1 {
-            if chosen[c] != FREE {
-                if chosen[c] != codes[8 * i + c] {
-                    return false;
-                }
-            }
-        }
-    }
-    true
+    (0..8usize).all(|c| {
+        (set >> c) % 2 == 0 || chosen[c] == FREE || chosen[c] == codes[8 * i + c]
+    })
 }
 
 // What is chosen with the columns of a set from row i.
@@ -70,14 +56,7 @@ fn some_goes(
     requires { size ≤ 24 }
     ensures { result ≡ some_goes codes.now relations.now size relation set chosen }
 {
-    for i in 0..size {
-        if relations[i] == relation {
-            if goes(codes, set, chosen, i) {
-                return true;
-            }
-        }
-    }
-    false
+    (0..size).any(|i| relations[i] == relation && goes(codes, set, chosen, i))
 }
 
 // Whether each set from k on has a row that goes with what is chosen.
@@ -108,17 +87,8 @@ pub fn is_first(codes: &[u32; 192], relations: &[u8; 24], relation: u8, set: u8,
     requires { i < 24 }
     ensures { result ≡ is_first codes.now relations.now relation set i }
 {
-    if relations[i] != relation {
-        return false;
-    }
-    for e in 0..i {
-        if relations[e] == relation {
-            if same_on(codes, set, i, e) {
-                return false;
-            }
-        }
-    }
-    true
+    relations[i] == relation
+        && !(0..i).any(|e| relations[e] == relation && same_on(codes, set, i, e))
 }
 
 // Which rows are to be tried for each set: at t whether row t % 24 is for set t / 24.
