@@ -25,12 +25,10 @@ pub fn agrees(source: &[u32], target: &[u32], r: usize, d: usize, q: usize, e: u
 {
     let row = &source[r..r + 8];
     let images = &target[d..d + 8];
-    row.iter()
-        .zip(images)
-        .all(|(&value, &image)| match Entry::from(value) {
-            Entry::Constant(_) => true,
-            Entry::Variable(_) => takes(source, target, value, image, q, e),
-        })
+    row.iter().zip(images).all(|(&value, &image)| match Entry::from(value) {
+        Entry::Constant(_) => true,
+        Entry::Variable(_) => takes(source, target, value, image, q, e),
+    })
 }
 
 // Whether the entry of code `value` stands in the row at q.
@@ -60,12 +58,10 @@ pub fn fixes(source: &[u32], target: &[u32], r: usize, d: usize) -> bool
 {
     let row = &source[r..r + 8];
     let images = &target[d..d + 8];
-    row.iter()
-        .zip(images)
-        .all(|(&value, &image)| match Entry::from(value) {
-            Entry::Constant(_) => image == value,
-            Entry::Variable(_) => true,
-        })
+    row.iter().zip(images).all(|(&value, &image)| match Entry::from(value) {
+        Entry::Constant(_) => image == value,
+        Entry::Variable(_) => true,
+    })
 }
 
 // Whether the rows at a and b are the same.

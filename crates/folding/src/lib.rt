@@ -11,6 +11,7 @@ ghost use Rattle.mapping.specs.internal.Mapped.{Narrow};
 ghost use Rattle.folding.specs.internal.Folding.{FoldsInto, LeftBut, Among, Tried};
 ghost use Rattle.folding.specs.internal.Kept.{Readable, IsKept};
 
+use candidates::marks::marks_where;
 use candidates::table::{domains, repeats, table};
 use consistency::all_links;
 use mapping::cells::{codes, flat};
@@ -22,11 +23,10 @@ fn among(domain: &[u32; 13], size: usize, left: u32) -> [u32; 13]
     requires { size ≤ 12 }
     ensures { Among domain.now size left result }
 {
-    let mut all = [0u32; 13];
-    for r in 0..size {
-        all[r] = domain[r] & left;
+    let mut all = *domain;
+    for mask in all[..size].iter_mut() {
+        *mask &= left;
     }
-    all[size] = domain[size];
     all
 }
 
@@ -55,17 +55,7 @@ fn without(left: u32, size: usize, i: usize) -> u32
     requires { size ≤ 12 }
     ensures { Marks size result (LeftBut left i) }
 {
-    let mut mask: u32 = 0;
-    let mut d = size;
-    while 0 < d {
-        d -= 1;
-        if stays(left, i, d) {
-            mask = mask * 2 + 1;
-        } else {
-            mask = mask * 2;
-        }
-    }
-    mask
+    marks_where(size, |d| stays(left, i, d))
 }
 
 // The rows that are no repeats of earlier ones.
@@ -73,17 +63,7 @@ fn distinct(target: &[u32], offered: [u8; 24], size: usize) -> u32
     requires { (length target.now ≡ 200) × (size ≤ 12) }
     ensures { Marks size result (λ d. Repeats target.now offered d → ⊥) }
 {
-    let mut mask: u32 = 0;
-    let mut d = size;
-    while 0 < d {
-        d -= 1;
-        if repeats(target, offered, d) {
-            mask = mask * 2;
-        } else {
-            mask = mask * 2 + 1;
-        }
-    }
-    mask
+    marks_where(size, |d| !repeats(target, offered, d))
 }
 
 // The rows that are left once row i is tried.
@@ -124,6 +104,7 @@ pub fn kept(q: Query) -> u32
     let pairs = table(&from, &to, size, size);
     let links = all_links(&domain, &pairs, size + 1);
     let mut left = distinct(&to, offered, size);
+    // Kept as it is: i is a row's number and indexes nothing; a `fold` would have to say of its closure that the mask stays below 2 to the size.
     for i in 0..size {
         left = tried(&domain, &pairs, &links, size, left, i);
     }

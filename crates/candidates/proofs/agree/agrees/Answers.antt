@@ -1,6 +1,6 @@
 -- `agrees` tells whether the two rows take each shared variable to one number.
 -- Assumes nothing.
-use Rattle.std.proofs.Common.{rules, tests, ℕ, ◌≤◌, arith}
+use Rattle.std.proofs.Common.{rules, tests, ℕ, ◌≤◌}
 use Rattle.std.proofs.lemmas.Iterator.{YieldsList-from_slice, YieldsList-from_zip, cases_from_all}
 use Rattle.candidates.specs.internal.Candidates.{Takes}
 use Rattle.candidates.proofs.Chained.{part, all-parts}

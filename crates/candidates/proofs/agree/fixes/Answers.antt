@@ -1,6 +1,6 @@
 -- `fixes` tells whether the image has the row's constants.
 -- Assumes nothing.
-use Rattle.std.proofs.Common.{rules, tests, ℕ, ◌≡◌, ◌<◌, arith}
+use Rattle.std.proofs.Common.{rules, tests, ℕ, ◌≡◌, ◌<◌}
 use Rattle.std.proofs.lemmas.Iterator.{YieldsList-from_slice, YieldsList-from_zip, cases_from_all}
 use Rattle.candidates.proofs.Chained.{part, all-parts}
 use Rattle.candidates.proofs.agree.fixes.Goals as goal

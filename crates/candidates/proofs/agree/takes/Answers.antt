@@ -1,6 +1,6 @@
 -- `takes` tells whether the row takes the number to the image.
 -- Assumes nothing.
-use Rattle.std.proofs.Common.{rules, tests, ℕ, ◌≡◌, arith}
+use Rattle.std.proofs.Common.{rules, tests, ℕ, ◌≡◌}
 use Rattle.std.proofs.lemmas.Iterator.{YieldsList-from_slice, YieldsList-from_zip, cases_from_all}
 use Rattle.candidates.proofs.Chained.{part, all-parts}
 use Rattle.candidates.proofs.agree.takes.Goals as goal

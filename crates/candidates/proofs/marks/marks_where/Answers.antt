@@ -1,8 +1,6 @@
 -- `marks_where` asks the numbers from the last to the first.
 -- Assumes nothing.
-use Prim.Native.Nat.{◌+◌, ◌-◌, ◌≤◌, ◌<◌}
-use native.Mathlib.Omega.{arith}
-use Rattle.candidates.proofs.Masks.{tested-down, tested-start, tested-end, tested-room}
+use Rattle.candidates.proofs.Masks.{tested-down, tested-start, tested-end}
 use Rattle.candidates.proofs.marks.marks_where.Goals as goal
 
 pub loop-e-init : goal.loop-e-init
