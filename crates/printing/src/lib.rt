@@ -1,4 +1,6 @@
 // Bytes and decimal numbers, written into a lent buffer. Each function takes the position to write from and returns the one after.
+// Kept as it is: a cursor that holds the buffer, or the rest of the buffer handed back, needs a clause in each contract of whose memory it is (a ghost name,
+// `Lends`) beside the one of what is written, which the position tells too.
 #![tactic(auto)]
 
 ghost use Rattle.std.specs.Prelude.{[], ◌∷◌};

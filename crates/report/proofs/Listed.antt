@@ -22,6 +22,8 @@ use Rattle.record.proofs.Stored as stored
 use Rattle.reduction.specs.declared.Reduced.{Reduced}
 use Rattle.reduction.specs.Reduced.{reduction_refusal, ReducesTo, IsReduced}
 use Rattle.text.specs.Text.{place_text}
+use Rattle.limits.specs.Schema.{widths_in}
+use Rattle.limits.specs.declared.schema.Schema.{Schema}
 use Rattle.text.specs.internal.Listable.{place_room, Listable}
 use Rattle.printing.specs.internal.Writing.{WrittenAt}
 use Rattle.text.proofs.Bound.{place_short}
@@ -99,16 +101,15 @@ module _ (r : Record) (place : ℕ) (low : place < 8) (good : good_record r ≡ 
   -- ---- the lines
 
   -- What is given may be listed
-  pub listable : (buffer : List ℕ) (at : ℕ) → at + place_room ≤ length buffer
-      → Listable buffer at place r.relations r.widths source result o.images
-  listable buffer at room =
+  pub listable : (schema : Schema) → widths_in schema ≡ schema_of r → (buffer : List ℕ) (at : ℕ) → at + place_room ≤ length buffer
+      → Listable buffer at place schema source result o.images
+  listable schema same buffer at room =
       record {
         room = room;
         place-known = low;
-        relations-good = (good-record r good).relations;
-        source-good = source-good;
-        source-safe = source-safe;
-        result-good = result-good;
+        source-good = rw same source-good;
+        source-safe = rw same source-safe;
+        result-good = rw same result-good;
         images-good = good-images;
       }
 

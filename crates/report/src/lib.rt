@@ -16,23 +16,9 @@ fn alone(given: Record, place: usize) -> Record
     requires { place < 8 }
     ensures { result ≡ alone_in given place }
 {
-    let widths = given.widths;
-    let dependencies = given.dependencies;
-    let joins = given.joins;
-    let places = given.places;
-    let kept = places[place];
-    let vacant = record::calls::no_place();
-    let mut after = [vacant; 8];
-    after[place] = kept;
-    Record {
-        relations: given.relations,
-        widths: widths,
-        held: given.held,
-        dependencies: dependencies,
-        joined: given.joined,
-        joins: joins,
-        places: after,
-    }
+    let mut places = [record::calls::no_place(); 8];
+    places[place] = given.places[place];
+    Record { places, ..given }
 }
 
 // Whether a place is filled.
@@ -40,9 +26,7 @@ fn is_filled(given: Record, place: usize) -> bool
     requires { place < 8 }
     ensures { result ≡ is_filled given place }
 {
-    let places = given.places;
-    let kept = places[place];
-    kept.filled
+    given.places[place].filled
 }
 
 // Another place than the given one.
@@ -50,7 +34,7 @@ fn other_place(place: usize) -> usize
     requires { place < 8 }
     ensures { result ≡ other_place place }
 {
-    if place == 0 { 1 } else { 0 }
+    usize::from(place == 0)
 }
 
 // Writes the lines of a filled place: its reduction in the record without the other places.
@@ -64,18 +48,15 @@ fn write_lines(buffer: &mut [u8], at: usize, given: Record, place: usize) -> usi
     let reduced = reduction::reduce(single, place, target);
     let after = reduced.record;
     let result = record::calls::stored(after, target);
-    let widths = given.widths;
-    let images = reduced.images;
     text::write_place(
         buffer,
         at,
         place,
-        given.relations,
-        widths,
+        given.schema(),
         source,
         result,
         reduced.count,
-        images,
+        reduced.images,
     )
 }
 
@@ -91,6 +72,7 @@ fn write_place(buffer: &mut [u8], at: usize, given: Record, place: usize) -> usi
 }
 
 // Writes the lines of every filled place, ascending.
+// Kept as it is: `place` is the number of a place, which is listed and which the calls of the record take, and goes through nothing here.
 fn write_places(buffer: &mut [u8], given: Record) -> usize
     requires { (8 * place_room ≤ length buffer.old) × (good_record given ≡ true) }
     ensures { ListingWritten given buffer.old buffer.new result }

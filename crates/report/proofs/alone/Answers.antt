@@ -20,5 +20,5 @@ read c =
 
 pub returns : goal.returns
 returns c =
-    alone-made c.args.given c.args.place c.no_place-vacant.result (get_or c.args.given.places c.args.place past_place)
-    c.no_place-vacant.ensures (read (goal.at.returns c).Start)
+    alone-made c.args.given c.args.place c.no_place-places.result (get_or c.args.given.places c.args.place past_place)
+    c.no_place-places.ensures (read (goal.at.returns c).Start)

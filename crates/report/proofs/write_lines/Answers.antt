@@ -30,7 +30,7 @@ pub write_place-requires : goal.write_place-requires
 write_place-requires c =
     listable c.args.given c.args.place c.requires.2 c.requires.1 (eight (goal.at.write_place-requires c).Start) c.requires.3 c.other_place-target.result
     c.other_place-target.ensures c.alone-single.result c.alone-single.ensures c.reduce-reduced.result c.reduce-reduced.ensures c.stored-source.result
-    c.stored-source.ensures c.stored-result.result c.stored-result.ensures c.args.buffer.now c.args.at c.requires.0.room
+    c.stored-source.ensures c.stored-result.result c.stored-result.ensures c.schema.result c.schema.ensures.value c.args.buffer.now c.args.at c.requires.0.room
 
 pub returns : goal.returns
 returns c =
@@ -38,4 +38,4 @@ returns c =
     c.other_place-target.ensures c.alone-single.result c.alone-single.ensures c.reduce-reduced.result c.reduce-reduced.ensures c.stored-source.result
     c.stored-source.ensures c.stored-result.result c.stored-result.ensures (source-long (goal.at.returns c).After-stored-source)
     (result-long (goal.at.returns c).After-stored-result) (count_small (goal.at.returns c).After-reduce-reduced) c.args.buffer.now c.args.at
-    c.write_place.new.buffer c.write_place.result c.write_place.ensures
+    c.write_place.new.buffer c.write_place.result (rw c.schema.ensures.value at c.write_place.ensures)
