@@ -21,7 +21,8 @@ use Rattle.query.specs.Types.{Tableau}
 use Rattle.comparison.specs.declared.Verdict.{Verdict}
 use Rattle.comparison.specs.declared.Verdict.TheVariants as verdict
 use Rattle.refusals.specs.declared.Refusal.{Refusal}
-use Rattle.refusals.specs.Refusal.{number_of}
+use Rattle.refusals.specs.Refusal.{number_of, reply_of}
+use Rattle.lent_numbers.specs.Lent.{returned}
 use Rattle.comparison.specs.Comparison.{Compared, ComparisonShape}
 use Rattle.mapping_words.specs.Images.{mapping_words}
 use Rattle.comparison_on_files.specs.Queries.{with_part, images_told, comparison_fits, ComparisonGiven, Comparing, CompareGives}
@@ -98,6 +99,14 @@ module _ (words room : ℕ) (schema : List ℕ) where
   unfolding ◌>>=◌
   comparison-refused why = refl
 
+-- What is given for a comparison that is known
+pub given-as : {images : List Cell} {x : Reply (ℕ × List ℕ)} (schema : List ℕ) (c v : Result Verdict Refusal) → c ≡ v → (said : ℕ) (mapping part : List ℕ) (size : ℕ)
+    → comparison_fits (length mapping) (length part) schema v ≡ x → images_told v ≡ images → (number said' : ℕ) (mapping' part' : List ℕ) (size' : ℕ)
+    → ComparisonGiven x images said mapping part size number said' mapping' part' size'
+    → ComparisonGiven (comparison_fits (length mapping) (length part) schema c) (images_told c) said mapping part size number said' mapping' part' size'
+given-as schema c v e said mapping part size p same number said' mapping' part' size' w =
+    rw (e, same) (comparison-same _ said mapping part size p number said' mapping' part' size' w)
+
 -- ---- the exported call
 
 module _ (file : List ℕ) (p q said : ℕ) (mapping part : List ℕ) (size : ℕ) where
@@ -116,11 +125,14 @@ module _ (file : List ℕ) (p q said : ℕ) (mapping part : List ℕ) (size : �
         given = w;
       }
 
-  pub compare-refused : (n : ℕ) → read_file file ≡ refused n → CompareGives file p q said mapping part size n said mapping part size
-  compare-refused n e =
-      record {
+  pub compare-refused : (told : Result (Unit {0}) Refusal) (why : Refusal) → (e : Refusal) × (told ≡ Err e) × (e ≡ why) → read_file file ≡ refused (number_of why)
+      → CompareGives file p q said mapping part size (returned (reply_of told)) said mapping part size
+  compare-refused told why left e =
+      let n : ℕ = number_of why in
+      rw (left.1, left.2)
+      (record {
         result = refused n;
         images = [];
         comparing = subst (λ (x : Reply Record). Comparing x p q (refused n) [] (length mapping) (length part)) (sym e) refl;
         given = (refl, refl, refl, refl, refl);
-      }
+      })

@@ -1,9 +1,10 @@
 // Comparing and checking a mapping on files: what each call leaves in what it is lent.
 #![tactic(auto)]
 
-ghost use Rattle.std.specs.Prelude.{◌≡◌, true, cond, ◌&&◌, [], eqb, ltb, length, take, replicate};
+ghost use Rattle.std.specs.Prelude.{◌≡◌, true, cond, ◌&&◌, [], eqb, ltb, length, replicate};
 ghost use Rattle.query.specs.View.{as_query};
-ghost use Rattle.query.specs.Rule.{good_relations, good_tableau, no_cell};
+ghost use Rattle.limits.specs.Schema.{widths_in};
+ghost use Rattle.query.specs.Rule.{good_tableau, no_cell};
 ghost use Rattle.format.specs.Parts.{query_for};
 ghost use Rattle.refusals.specs.Refusals.{reply, buffer_too_short, too_many_rows};
 ghost use Rattle.refusals.specs.Refusal.{number_of, reply_of};
@@ -14,6 +15,7 @@ ghost use Rattle.comparison_on_files.specs.internal.Steps.{SoundComparison, verd
 
 use comparison::Verdict;
 use encoder::{put_query, query_length};
+use limits::schema::Schema;
 use mapping_words::{put_mapping, read_mapping};
 use query::{Cell, Tableau};
 use record::Record;
@@ -45,27 +47,25 @@ fn store_contained(
 // Stores the verdict that the first query is not contained, with its chased query and no mapping.
 fn store_apart(
     chased: Tableau,
-    count: u8,
-    widths: [u8; 8],
+    schema: Schema,
     verdict: &mut u8,
     mapping: &mut [u32],
     part: &mut [u8],
     size: &mut usize,
 ) -> Result<(), Refusal>
-    requires widths_value { good_relations count widths ≡ true }
-    requires chased_value { good_tableau (take count widths) chased ≡ true }
+    requires { good_tableau (widths_in schema) chased ≡ true }
     ensures { ComparisonGiven (verdict_fits (length mapping.old) (length part.old)
-        (0, (query_for 24 (take count widths)).put (as_query chased))) (replicate 96 no_cell) verdict.old mapping.old part.old size.old (returned (reply_of result)) verdict.new mapping.new part.new
+        (0, (query_for 24 (widths_in schema)).put (as_query chased))) (replicate 96 no_cell) verdict.old mapping.old part.old size.old (returned (reply_of result)) verdict.new mapping.new part.new
         size.new }
 {
     if mapping.len() < 192 {
         return Err(Refusal::BufferTooShort);
     }
-    let n = query_length(chased, count, widths);
+    let n = query_length(chased, schema);
     if part.len() < n {
         return Err(Refusal::BufferTooShort);
     }
-    put_query(part, 0, chased, count, widths);
+    put_query(part, 0, chased, schema);
     put_mapping([query::NO_CELL; 96], mapping);
     *verdict = comparison::NOT_CONTAINED;
     *size = n;
@@ -87,23 +87,19 @@ fn refusal_for(refusal: Refusal, words: usize) -> Refusal
 // Stores a comparison, unless it is refused: the verdict, the mapping, and the chased query.
 pub fn store_comparison(
     compared: Result<Verdict, Refusal>,
-    count: u8,
-    widths: [u8; 8],
+    schema: Schema,
     verdict: &mut u8,
     mapping: &mut [u32],
     part: &mut [u8],
     size: &mut usize,
 ) -> Result<(), Refusal>
-    requires widths_value { good_relations count widths ≡ true }
-    requires sound_comparison { SoundComparison (take count widths) compared }
-    ensures { ComparisonGiven (comparison_fits (length mapping.old) (length part.old) (take count widths) compared)
+    requires { SoundComparison (widths_in schema) compared }
+    ensures { ComparisonGiven (comparison_fits (length mapping.old) (length part.old) (widths_in schema) compared)
         (images_told compared) verdict.old mapping.old part.old size.old (returned (reply_of result)) verdict.new mapping.new
         part.new size.new }
 {
     match compared {
-        Ok(Verdict::Apart(chased)) => {
-            store_apart(chased, count, widths, verdict, mapping, part, size)
-        }
+        Ok(Verdict::Apart(chased)) => { store_apart(chased, schema, verdict, mapping, part, size) }
         Ok(Verdict::Mapped(images)) => store_contained(
             comparison::CONTAINED_BY_MAPPING,
             images,
@@ -155,37 +151,25 @@ pub fn compare_in_file(
     mapping: &mut [u32],
     part: &mut [u8],
     size: &mut usize,
-) -> u8
-    ensures { CompareGives file.now p q verdict.old mapping.old part.old size.old result verdict.new mapping.new part.new size.new }
+) -> Result<(), Refusal>
+    ensures { CompareGives file.now p q verdict.old mapping.old part.old size.old (returned (reply_of result)) verdict.new mapping.new part.new size.new }
 {
-    let outcome = file::read(file);
-    let answer = outcome.answer;
-    match answer {
-        Ok(()) => {
-            let given = outcome.record;
-            let count = given.relations;
-            let widths = given.widths;
-            let compared = comparison::compare(given, p, q);
-            lent_numbers::number_of(store_comparison(
-                compared, count, widths, verdict, mapping, part, size,
-            ))
-        }
-        Err(refusal) => u8::from(refusal),
-    }
+    let given = file::read_record(file)?;
+    let compared = comparison::compare(given, p, q);
+    store_comparison(compared, given.schema(), verdict, mapping, part, size)
 }
 
 // Checks a mapping from the query of place q to that of place p.
-pub fn check_in_file(file: &[u8], p: usize, q: usize, mapping: &[u32], verdict: &mut u8) -> u8
-    ensures value { result ≡ returned (checked_in file.now p q mapping.now) }
+pub fn check_in_file(
+    file: &[u8],
+    p: usize,
+    q: usize,
+    mapping: &[u32],
+    verdict: &mut u8,
+) -> Result<(), Refusal>
+    ensures value { returned (reply_of result) ≡ returned (checked_in file.now p q mapping.now) }
     ensures verdict_after { verdict.new ≡ leaves (checked_in file.now p q mapping.now) bit verdict.old }
 {
-    let outcome = file::read(file);
-    let answer = outcome.answer;
-    match answer {
-        Ok(()) => {
-            let given = outcome.record;
-            lent_numbers::number_of(check_words(given, p, q, mapping, verdict))
-        }
-        Err(refusal) => u8::from(refusal),
-    }
+    let given = file::read_record(file)?;
+    check_words(given, p, q, mapping, verdict)
 }

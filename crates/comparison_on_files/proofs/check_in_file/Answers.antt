@@ -1,27 +1,28 @@
--- `spernevan_check` gives what checking promises, once the file is read. Assumes nothing.
-use mathlib.Core.Path.{refl, ◌∙◌}
-use Rattle.refusals.specs.Refusals.{reply}
+-- `check_in_file` gives what checking promises, once the file is read. Assumes nothing.
+use Rattle.std.proofs.Common.{◌≡◌, sym, ap, ◌∙◌}
+use Rattle.std.proofs.lemmas.Result.{err_from_is_err_and}
+use Rattle.refusals.specs.Refusals.{reply, refused}
+use Rattle.refusals.specs.Refusal.{number_of}
 use Rattle.comparison.specs.Comparison.{pair_refusal}
-use Rattle.record_on_files.proofs.Files.{read_done, read-refused}
-use Rattle.comparison_on_files.specs.Queries.{words_map}
-use Rattle.comparison_on_files.proofs.Checks.{says_same}
+use Rattle.comparison_on_files.specs.Queries.{words_map, checked_in, bit}
+use Rattle.lent_numbers.specs.Lent.{returned}
+use Rattle.lent_numbers.proofs.Lent.{goes_on, still-refused, leaves-same, err-number, refused-leaves}
 use Rattle.comparison_on_files.proofs.check_in_file.Goals as goal
 
-pub returns-in-Ok : goal.returns-in-Ok
-returns-in-Ok c =
+pub returns-in_err-given : goal.returns-in_err-given
+returns-in_err-given c =
     let a = c.args in
-    let read = c.read-outcome in
-    let said = c.check_words.ensures in
-    let s = says_same
-    (read_done a.file.now read.result read.ensures (λ r. reply (pair_refusal r a.p a.q) (words_map r a.p a.q a.mapping.now))
-    c.in-Ok.is) a.verdict.now c.number_of.result c.check_words.new.verdict (c.number_of.ensures ∙ said.value, said.verdict_after) in
-    record { value = s.0; verdict_after = s.1 }
+    let why = c.in_err-given.field-0.0 in
+    let p : checked_in a.file.now a.p a.q a.mapping.now ≡ refused (number_of why) =
+    still-refused (sym c.in_err-given.ensures) (λ r. reply (pair_refusal r a.p a.q) (words_map r a.p a.q a.mapping.now)) in
+    record {
+      value = err-number c.from_residual.result why (err_from_is_err_and c.from_residual.result c.from_residual.ensures.1) p;
+      verdict_after = refused-leaves p bit a.verdict.now;
+    }
 
-pub returns-in-Err : goal.returns-in-Err
-returns-in-Err c =
+pub returns : goal.returns
+returns c =
     let a = c.args in
-    let read = c.read-outcome in
-    let s = says_same
-    (read-refused a.file.now read.result read.ensures (λ r. reply (pair_refusal r a.p a.q) (words_map r a.p a.q a.mapping.now))
-    c.in-Err.refusal c.from.result c.from.ensures c.in-Err.is) a.verdict.now c.from.result a.verdict.now (refl, refl) in
-    record { value = s.0; verdict_after = s.1 }
+    let said = c.check_words.ensures in
+    let p = sym (goes_on (sym c.in_ok-given.ensures) (λ r. reply (pair_refusal r a.p a.q) (words_map r a.p a.q a.mapping.now))) in
+    record { value = said.value ∙ ap returned p; verdict_after = said.verdict_after ∙ leaves-same p bit a.verdict.now }
