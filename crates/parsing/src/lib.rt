@@ -1,5 +1,5 @@
 // What the parts of a file hold, read off bytes: numbers, then the query of a query part, the relations of part 0 and the dependencies of both kinds of part 1.
-// Each reader answers none where the bytes are no good value.
+// A reader of what may be followed by more hands back the value and the bytes after it. Each answers none where the bytes are no good value.
 #![tactic(auto)]
 
 ghost use Rattle.std.specs.Prelude.{◌≡◌, true, ◌+◌, ◌≤◌, ◌<◌, length, take, drop};
@@ -9,9 +9,9 @@ ghost use Rattle.limits.specs.Schema.{widths_in};
 ghost use Rattle.refusals.specs.Refusals.{bad_relations};
 ghost use Rattle.format.specs.Bytes.{number};
 ghost use Rattle.format.specs.Format.{get_byte, map_reading};
-ghost use Rattle.format.specs.Parts.{entry, entries, rows, query, relations, dependency, dependencies, join};
+ghost use Rattle.format.specs.Parts.{entry, entries, row, rows, query, relations, dependency, dependencies, join};
 ghost use Rattle.format.specs.File.{complete, read_joins};
-ghost use Rattle.parsing.specs.internal.Read.{value_read, value_given, reading_of, relations_in, stored_rows};
+ghost use Rattle.parsing.specs.internal.Read.{value_given, reading_of, relations_in, stored_rows};
 
 use limits::schema::Schema;
 use query::{
@@ -36,12 +36,13 @@ fn word32(s: &[u8], at: usize) -> u32
     u32::from_le_bytes([s[at], s[at + 1], s[at + 2], s[at + 3]])
 }
 
-// The byte at a position, if there is one and it is within limits.
-pub fn read_byte(s: &[u8], at: usize, low: u8, high: u8) -> Option<u8>
-    ensures { result ≡ value_read (get_byte (between low high) (drop at s.now)) }
+// A byte, if it is within limits.
+fn read_byte(s: &[u8], low: u8, high: u8) -> Option<(u8, &[u8])>
+    ensures { reading_of result ≡ get_byte (between low high) s.now }
 {
-    if at < s.len() && low <= s[at] && s[at] <= high {
-        Some(s[at])
+    let (byte, rest) = s.split_first()?;
+    if low <= *byte && *byte <= high {
+        Some((*byte, rest))
     } else {
         None
     }
@@ -49,40 +50,63 @@ pub fn read_byte(s: &[u8], at: usize, low: u8, high: u8) -> Option<u8>
 
 // ---- entries
 
-// The entry at a position: a byte (0 constant, 1 variable) and 32 bits.
-fn read_entry(s: &[u8], at: usize) -> Option<Cell>
-    ensures { result ≡ value_read (entry.get (drop at s.now)) }
+// An entry: a byte (0 constant, 1 variable) and 32 bits.
+fn read_entry(s: &[u8]) -> Option<(Cell, &[u8])>
+    ensures { reading_of result ≡ entry.get s.now }
 {
-    if s.len() < at || s.len() - at < 5 {
+    if s.len() < 5 {
         return None;
     }
-    let n = word32(s, at + 1);
-    match s[at] {
-        0 if n <= 2147483647 => Some(Cell {
-            entry: Entry::Constant(n),
-        }),
-        1 if n <= 95 => Some(Cell {
-            entry: Entry::Variable(n as u8),
-        }),
+    let n = word32(s, 1);
+    let rest = &s[5..];
+    match s[0] {
+        0 if n <= 2147483647 => Some((
+            Cell {
+                entry: Entry::Constant(n),
+            },
+            rest,
+        )),
+        1 if n <= 95 => Some((
+            Cell {
+                entry: Entry::Variable(n as u8),
+            },
+            rest,
+        )),
         _ => None,
     }
 }
 
-// The n entries from a position on, in 8 cells.
-// Kept as it is: i gives both the cell and the position that is read, and `?` leaves the loop, so that no slice is gone over for its own sake.
-fn read_entries(s: &[u8], at: usize, n: usize) -> Option<[Cell; 8]>
-    requires at_in_bounds { at ≤ length s.now }
-    requires n_bound { n ≤ 8 }
-    ensures { result ≡ value_read ((entries n).get (drop at s.now)) }
+// n entries, in 8 cells.
+// Kept as it is: through a `take` of `iter_mut` in place of i a proof knows nothing of the cells.
+fn read_entries(s: &[u8], n: usize) -> Option<([Cell; 8], &[u8])>
+    requires { n ≤ 8 }
+    ensures { reading_of result ≡ (entries n).get s.now }
 {
     let mut cells = [NO_CELL; 8];
+    let mut rest = s;
     for i in 0..n {
-        cells[i] = read_entry(s, at + 5 * i)?;
+        let (cell, after) = read_entry(rest)?;
+        cells[i] = cell;
+        rest = after;
     }
-    Some(cells)
+    Some((cells, rest))
 }
 
 // ---- rows
+
+// A row: the relation byte and one entry a column.
+fn read_row(s: &[u8], schema: Schema) -> Option<((u8, [Cell; 8]), &[u8])>
+    ensures { reading_of result ≡ (row (widths_in schema)).get s.now }
+{
+    let (relation, rest) = s.split_first()?;
+    let relation = *relation;
+    if schema.relations <= relation {
+        return None;
+    }
+    let width = schema.width_of(relation) as usize;
+    let (cells, rest) = read_entries(rest, width)?;
+    Some(((relation, cells), rest))
+}
 
 // The relations and cells of some rows.
 #[derive(Clone, Copy)]
@@ -91,46 +115,35 @@ pub struct StoredRows {
     pub cells: [Cell; 96],
 }
 
-// The rows from a position on, and the bytes after them: for each the relation byte and one entry a column, which are stored where they belong.
-// Kept as it is: r and i give the position that is read, the cell and the relation's slot, and `?` leaves the loops.
-fn read_rows(part: &[u8], start: usize, size: usize, schema: Schema) -> Option<(StoredRows, &[u8])>
-    requires start_in_bounds { start ≤ length part.now }
-    requires size_bound { size ≤ 12 }
-    ensures { reading_of result ≡ map_reading stored_rows ((rows 12 (widths_in schema) size).get (drop start part.now)) }
+// Rows, of which each is stored where it belongs.
+// Kept as it is: r names both the relation's slot and the row's cells.
+fn read_rows(s: &[u8], size: usize, schema: Schema) -> Option<(StoredRows, &[u8])>
+    requires { size ≤ 12 }
+    ensures { reading_of result ≡ map_reading stored_rows ((rows 12 (widths_in schema) size).get s.now) }
 {
     let mut relations = [0; 12];
     let mut cells = [NO_CELL; 96];
-    let mut at = start;
+    let mut rest = s;
     for r in 0..size {
-        if part.len() <= at {
-            return None;
-        }
-        let relation = part[at];
-        if schema.relations <= relation {
-            return None;
-        }
-        let width = schema.widths[relation as usize] as usize;
-        for i in 0..width {
-            cells[8 * r + i] = read_entry(part, at + 1 + 5 * i)?;
-        }
+        let ((relation, row), after) = read_row(rest, schema)?;
         relations[r] = relation;
-        at = at + 1 + 5 * width;
+        cells[8 * r..8 * r + 8].copy_from_slice(&row);
+        rest = after;
     }
-    let rest = &part[at..];
     Some((StoredRows { relations, cells }, rest))
 }
 
 // ---- query parts
 
-// The query at the start of a part, and the bytes after it: head length, row count, head entries, then rows.
+// A query: head length, row count, head entries, then rows.
 pub fn read_query(part: &[u8], schema: Schema) -> Option<(Query, &[u8])>
     ensures { reading_of result ≡ (query (widths_in schema)).get part.now }
 {
-    let arity = read_byte(part, 0, 0, 8)?;
-    let size = read_byte(part, 1, 0, 12)?;
+    let (arity, rest) = read_byte(part, 0, 8)?;
+    let (size, rest) = read_byte(rest, 0, 12)?;
     let used = limits::head_in_use(arity, size);
-    let head = read_entries(part, 2, used)?;
-    let (rows, rest) = read_rows(part, 2 + 5 * used, size as usize, schema)?;
+    let (head, rest) = read_entries(rest, used)?;
+    let (rows, rest) = read_rows(rest, size as usize, schema)?;
     let StoredRows { relations, cells } = rows;
     let query = Query {
         arity,
@@ -157,37 +170,39 @@ pub fn read_relations(part: &[u8]) -> Option<Schema>
 
 // ---- part 1: functional dependencies
 
-// The functional dependency at a position: relation, left set and right column, a byte each.
-fn read_dependency(part: &[u8], at: usize, schema: Schema) -> Option<Dependency>
-    ensures { result ≡ value_read ((dependency (widths_in schema)).get (drop at part.now)) }
+// A functional dependency: relation, left set and right column, a byte each.
+fn read_dependency(s: &[u8], schema: Schema) -> Option<(Dependency, &[u8])>
+    ensures { reading_of result ≡ (dependency (widths_in schema)).get s.now }
 {
-    if part.len() < at || part.len() - at < 3 {
+    if s.len() < 3 {
         return None;
     }
     let d = Dependency {
-        relation: part[at],
-        left: part[at + 1],
-        right: part[at + 2],
+        relation: s[0],
+        left: s[1],
+        right: s[2],
     };
     if schema.dependency_good(d) {
-        Some(d)
+        Some((d, &s[3..]))
     } else {
         None
     }
 }
 
-// The front of part 1, and the bytes after it: the count of functional dependencies, then 3 bytes each.
-// Kept as it is: i gives both the slot and the position that is read, and `?` leaves the loop.
+// The front of part 1: the count of functional dependencies, then each of them.
+// Kept as it is: as with `read_entries`, a proof knows nothing of what is written through a `take` of `iter_mut`.
 pub fn read_dependencies(part: &[u8], schema: Schema) -> Option<((u8, [Dependency; 32]), &[u8])>
     ensures { reading_of result ≡ (dependencies (widths_in schema)).get part.now }
 {
-    let held = read_byte(part, 0, 0, 32)?;
-    let n = held as usize;
+    let (held, front) = read_byte(part, 0, 32)?;
     let mut dependencies = [NO_DEPENDENCY; 32];
+    let mut rest = front;
+    let n = held as usize;
     for i in 0..n {
-        dependencies[i] = read_dependency(part, 1 + 3 * i, schema)?;
+        let (d, after) = read_dependency(rest, schema)?;
+        dependencies[i] = d;
+        rest = after;
     }
-    let rest = &part[1 + 3 * n..];
     Some(((held, dependencies), rest))
 }
 
@@ -203,49 +218,51 @@ pub fn read_sets(part: &[u8], at: usize, n: usize) -> [u8; 4]
     sets
 }
 
-// The join dependency at a position: relation, number of sets, and the sets, a byte each.
-fn read_join(part: &[u8], at: usize, schema: Schema) -> Option<JoinDependency>
-    requires at_in_bounds { at ≤ length part.now }
-    ensures { result ≡ value_read ((join (widths_in schema)).get (drop at part.now)) }
+// A join dependency: relation, number of sets, and the sets, a byte each.
+fn read_join(s: &[u8], schema: Schema) -> Option<(JoinDependency, &[u8])>
+    ensures { reading_of result ≡ (join (widths_in schema)).get s.now }
 {
-    let left = part.len() - at;
-    if left < 2 {
+    if s.len() < 2 {
         return None;
     }
-    let n = part[at + 1];
+    let n = s[1];
     if 4 < n {
         return None;
     }
-    if left < 2 + n as usize {
+    if s.len() < 2 + n as usize {
         return None;
     }
-    let sets = read_sets(part, at + 2, n as usize);
+    let sets = read_sets(s, 2, n as usize);
     let j = JoinDependency {
-        relation: part[at],
+        relation: s[0],
         count: n,
         sets,
     };
-    if schema.join_good(j) { Some(j) } else { None }
+    if schema.join_good(j) {
+        Some((j, &s[2 + n as usize..]))
+    } else {
+        None
+    }
 }
 
 // What is left of part 1 after the functional dependencies: nothing, or the count of join dependencies and each of them.
-// Kept as it is: i gives the slot, the position moves on by as many bytes as each has, and `?` leaves the loop.
+// Kept as it is: as with `read_entries`, a proof knows nothing of what is written through a `take` of `iter_mut`.
 pub fn read_joins(part: &[u8], schema: Schema) -> Option<(u8, [JoinDependency; 4])>
     ensures { result ≡ value_given (read_joins (widths_in schema) part.now) }
 {
     let mut joins = [NO_JOIN_DEPENDENCY; 4];
-    if part.len() == 0 {
+    if part.is_empty() {
         return Some((0, joins));
     }
-    let joined = read_byte(part, 0, 1, 4)?;
+    let (joined, front) = read_byte(part, 1, 4)?;
+    let mut rest = front;
     let n = joined as usize;
-    let mut at = 1;
     for i in 0..n {
-        let j = read_join(part, at, schema)?;
+        let (j, after) = read_join(rest, schema)?;
         joins[i] = j;
-        at = at + 2 + j.count as usize;
+        rest = after;
     }
-    if at < part.len() {
+    if !rest.is_empty() {
         return None;
     }
     Some((joined, joins))

@@ -1,4 +1,4 @@
--- The answers of this crate's functions: the format's readings and results as options.
+-- The answers of this crate's functions as the format's readings, and its results as options.
 use Rattle.std.specs.Prelude.{List, map, ℕ, Option, None, Some}
 use denote.Ref.{Bor}
 use Rattle.query.specs.declared.Cell.{Cell}
@@ -7,11 +7,6 @@ use Rattle.format.specs.Format.{Reading, none, got}
 use Rattle.format.specs.Parts.{flat}
 use Rattle.refusals.specs.Refusals.{Reply, gives, refused}
 use Rattle.parsing.specs.declared.StoredRows.{StoredRows}
-
--- The value that was read, if any
-abbrev pub value_read : {A : Type 0} → Reading A → Option A
-value_read none = None
-value_read (got a rest) = Some a
 
 -- The value that a result gives, if any
 abbrev pub value_given : {A : Type 0} → Reply A → Option A
