@@ -73,13 +73,7 @@ fn all_go(
 {
     let sets = j.sets;
     let count = j.count as usize;
-    // Kept as it is: `all` over the sets gets no generated proof, since its closure and the sets are borrowed for different lifetimes.
-    for m in k..count {
-        if !some_goes(codes, relations, size, j.relation, sets[m], chosen) {
-            return false;
-        }
-    }
-    true
+    (k..count).all(|m| some_goes(codes, relations, size, j.relation, sets[m], chosen))
 }
 
 // Whether row i is of the relation, and no earlier row of the relation has the same codes in the columns of a set.
