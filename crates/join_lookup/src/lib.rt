@@ -25,15 +25,10 @@ pub fn has(words: &[u32], schema: &[u8], x: Index, at: usize, columns: u8, value
     ensures by_index_3 { (p : ℕ) → BeginsAt schema.now words.now at p → result ≡ false
         → Has schema.now words.now x columns values p → ⊥ }
 {
-    if words[at] != x.relation {
-        return false;
-    }
-    for c in 0..x.width {
-        if words::has_column(columns, c) && words::value(words, at, c) != values[c] {
-            return false;
-        }
-    }
-    true
+    words[at] == x.relation
+        && (0..x.width).all(|c| {
+            !words::has_column(columns, c) || words::value(words, at, c) == values[c]
+        })
 }
 
 // The bucket of some values in the columns of a set: their hash, spread by a factor, in proportion to the number of buckets; without a division.
