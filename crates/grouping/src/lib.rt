@@ -92,6 +92,7 @@ fn compare(sought: Sought, heads: &[u32], nodes: &[u32], count: usize) -> Beside
 {
     let bucket = sought.bucket;
     let mut node = heads[bucket] as usize;
+    // Kept as it is: a chain goes by its links, so that no iterator stands for it.
     while node != 0 {
         let s = 4 * (node - 1);
         if nodes[s + 3] == sought.tag {

@@ -10,6 +10,7 @@ ghost use Rattle.join_search.specs.internal.Search.{Spare, Extendable};
 use query::JoinDependency;
 
 // No entry has this code.
+// Kept as it is: a number among codes, so that a column takes one word and one comparison; an Option of a code would take two.
 pub const FREE: u32 = u32::MAX;
 
 // Whether two rows have the same codes in the columns of a set.
@@ -36,6 +37,7 @@ fn choose(codes: &[u32; 192], set: u8, chosen: [u32; 8], i: usize) -> [u32; 8]
     ensures { result ≡ choose codes.now set chosen i }
 {
     let mut next = chosen;
+    // Kept as it is: c is a bit of the set, a place in `next` and a place in row i.
     for c in 0..8usize {
         if (set >> c) % 2 == 1 {
             next[c] = codes[8 * i + c];
@@ -73,13 +75,7 @@ fn all_go(
 {
     let sets = j.sets;
     let count = j.count as usize;
-    // Kept as it is: `all` over the sets gets no generated proof, since its closure and the sets are borrowed for different lifetimes.
-    for m in k..count {
-        if !some_goes(codes, relations, size, j.relation, sets[m], chosen) {
-            return false;
-        }
-    }
-    true
+    (k..count).all(|m| some_goes(codes, relations, size, j.relation, sets[m], chosen))
 }
 
 // Whether row i is of the relation, and no earlier row of the relation has the same codes in the columns of a set.
@@ -127,6 +123,7 @@ fn extend(
     let sets = j.sets;
     let set = sets[k];
     if all_go(codes, relations, size, j, k, chosen) {
+        // Kept as it is: a cycle of calls gets no proof where it goes through a closure, as `find_map` would have it.
         for i in 0..size {
             if tried[24 * k + i] {
                 if goes(codes, set, chosen, i) {

@@ -40,6 +40,7 @@ fn search(
     let set = j.sets[k];
     let shared = set & filled;
     let mut at = join_lookup::start(words, schema, x, k + 1, shared, values, heads);
+    // Kept as it is: a chain goes by its links, so that no iterator stands for it.
     while at < words.len() {
         if join_lookup::has(words, schema, x, at, shared, values) {
             let row = join_lookup::with_row(words, x, at, set, values);

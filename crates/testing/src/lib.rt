@@ -50,6 +50,7 @@ fn first_pair(
 {
     let relation = d.relation as u32;
     let mut place = words::FIRST;
+    // Kept as it is: a skip may pass many rows, and the next search is of the words from there on.
     while place.at < words.len() {
         let row = match grouping::skip(schema, &words[place.at..], d, heads, nodes) {
             End::Found(row) => row,

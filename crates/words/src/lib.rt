@@ -116,12 +116,7 @@ pub fn agrees_at(words: &[u32], width: usize, d: Dependency, a: usize, b: usize)
     requires width_bound { (width ≤ 8) × (d.left < 2 ^ width) }
     ensures { result ≡ agree_rows (dependency_of d) (span_at width words.now a) (span_at width words.now b) }
 {
-    for c in 0..width {
-        if has_column(d.left, c) && value(words, a, c) != value(words, b, c) {
-            return false;
-        }
-    }
-    true
+    (0..width).all(|c| !has_column(d.left, c) || value(words, a, c) == value(words, b, c))
 }
 
 // Whether the rows at `a` and `b`, both of the dependency's relation, break it: they agree on the left columns and differ on the right one.
