@@ -98,6 +98,17 @@ module _ (words room : ℕ) (schema : List ℕ) where
   unfolding ◌>>=◌
   comparison-refused why = refl
 
+-- What is left for a comparison that is known
+pub given-for : (mapping part schema : List ℕ) (said size : ℕ) {c d : Result Verdict Refusal} → c ≡ d
+    → {number said' : ℕ} {mapping' part' : List ℕ} {size' : ℕ}
+    → ComparisonGiven (comparison_fits (length mapping) (length part) schema d) (images_told d) said mapping part size number said' mapping' part' size'
+    → ComparisonGiven (comparison_fits (length mapping) (length part) schema c) (images_told c) said mapping part size number said' mapping' part' size'
+given-for mapping part schema said size e {number} {said'} {mapping'} {part'} {size'} w =
+    subst
+    (λ (x : Result Verdict Refusal).
+    ComparisonGiven (comparison_fits (length mapping) (length part) schema x) (images_told x) said mapping part size number said' mapping' part' size')
+    (sym e) w
+
 -- ---- the exported call
 
 module _ (file : List ℕ) (p q said : ℕ) (mapping part : List ℕ) (size : ℕ) where

@@ -2,7 +2,8 @@
 use mathlib.Core.Path.{◌≡◌}
 use Prim.Native.Nat.{◌≤◌, ◌<◌}
 use native.Mathlib.Omega.{arith}
-use lib.ListN.{length, take}
+use lib.ListN.{length, take, replicate}
+use Rattle.query.specs.Rule.{no_cell}
 use Rattle.query.specs.View.{as_query}
 use Rattle.query.proofs.Good.{good-query}
 use Rattle.format.specs.Parts.{query_for}
@@ -19,7 +20,7 @@ fits c =
 pub returns-then-mapping-lt192 : goal.returns-then-mapping-lt192
 returns-then-mapping-lt192 c =
     let a = c.args in
-    verdict-short a.images a.verdict.now a.mapping.now a.part.now a.size.now 0 ((query_for 24 (take a.count a.widths)).put (as_query a.chased))
+    verdict-short (replicate 96 no_cell) a.verdict.now a.mapping.now a.part.now a.size.now 0 ((query_for 24 (take a.count a.widths)).put (as_query a.chased))
     c.if-mapping-lt192.true
 
 pub query_length-n-requires : goal.query_length-n-requires
@@ -31,7 +32,7 @@ returns-then-part-n c =
     let schema = take a.count a.widths in
     let n : c.query_length-n.result ≡ length ((query_for 24 schema).put (as_query a.chased)) = c.query_length-n.ensures.0 in
     let l : length a.part.now < c.query_length-n.result = c.if-part-n.true in
-    verdict-long a.images a.verdict.now a.mapping.now a.part.now a.size.now 0 ((query_for 24 schema).put (as_query a.chased))
+    verdict-long (replicate 96 no_cell) a.verdict.now a.mapping.now a.part.now a.size.now 0 ((query_for 24 schema).put (as_query a.chased))
     c.if-mapping-lt192.false (omega arith)
 
 pub put_query-requires : goal.put_query-requires
@@ -46,6 +47,6 @@ returns c =
     let schema = take a.count a.widths in
     let n : c.query_length-n.result ≡ length ((query_for 24 schema).put (as_query a.chased)) = c.query_length-n.ensures.0 in
     let l : c.query_length-n.result ≤ length a.part.now = c.if-part-n.false in
-    verdict-stored a.images a.verdict.now a.mapping.now a.part.now a.size.now 0 ((query_for 24 schema).put (as_query a.chased)) _ _ _
+    verdict-stored (replicate 96 no_cell) a.verdict.now a.mapping.now a.part.now a.size.now 0 ((query_for 24 schema).put (as_query a.chased)) _ _ _
     c.if-mapping-lt192.false (omega arith) c.put_mapping.ensures
     c.put_query.ensures.0 n
