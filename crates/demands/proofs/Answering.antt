@@ -11,10 +11,13 @@ use Rattle.record.specs.declared.Record.{Record}
 use Rattle.record.specs.Calls.{outcome_reply, is_filled, query_at}
 use Rattle.refusals.specs.declared.Refusal.{Refusal}
 use Rattle.refusals.specs.Refusal.{reply_of}
-use Rattle.comparison.specs.declared.Comparison.{Comparison}
+use Rattle.query.specs.Types.{Tableau}
+use Rattle.record.specs.View.{schema_of, dependencies_of, joins_of}
+use Rattle.joins.specs.Join.{LegalForBoth}
+use Rattle.theory.specs.Containment as containment
 use Rattle.comparison.specs.declared.Verdict.{Verdict}
-use Rattle.comparison.specs.declared.Verdict.TheVariants.{Never, Mapped, Apart, Refused}
-use Rattle.comparison.specs.Comparison.{comparison_refusal, verdict_reply, verdict_on, chased_at, SaysContained, Compared}
+use Rattle.comparison.specs.declared.Verdict.TheVariants.{Never, Mapped, Apart}
+use Rattle.comparison.specs.Comparison.{comparison_refusal, verdict_on, chased_at, Compared}
 use Rattle.refusals.specs.Refusals.{over_unless, Reply, refused, gives, reply}
 use Rattle.refusals.proofs.Refusals.{refused-gives}
 use Rattle.query.specs.declared.Place.{Place}
@@ -26,7 +29,7 @@ use Rattle.admission.proofs.Admitted.{none-asked}
 use Rattle.database.proofs.Meaning.{place-ascending, place-answers}
 use Rattle.minimization.specs.Search as search
 use Rattle.record.specs.declared.Outcome.{Outcome}
-use Rattle.std.specs.Prelude.{Result, Err}
+use Rattle.std.specs.Prelude.{Result, Ok, Err}
 use Rattle.format.specs.Bytes.{Bytes}
 use Rattle.format.specs.File.{read_file, read_outcome, file_of, shaped}
 use Rattle.writer.specs.Write.{written, after_writing}
@@ -36,37 +39,30 @@ use Rattle.lists.proofs.Over.{over-length}
 use Rattle.demands.specs.Demand2.{Decides, Evaluates, FileComesBack, RecordComesBack}
 use native.Mathlib.Nat.{zero-add}
 
--- A verdict that is not a refusal and does not say contained is Apart
-apart-else : (v : Verdict) → ((why : Refusal) → v ≡ Refused why → ⊥) → (SaysContained v → ⊥) → v ≡ Apart
-apart-else Never clear not = absurd (not tt)
-apart-else Mapped clear not = absurd (not tt)
-apart-else Apart clear not = refl
-apart-else (Refused why) clear not = absurd (clear why refl)
-
--- Nor is it any other
-says-else : (v : Verdict) → ((why : Refusal) → v ≡ Refused why → ⊥) → (v ≡ Apart → ⊥) → SaysContained v
-says-else Never clear not = tt
-says-else Mapped clear not = tt
-says-else Apart clear not = absurd (not refl)
-says-else (Refused why) clear not = absurd (clear why refl)
-
-module _ (r : Record) (p q : ℕ) (c : Comparison) (compared : Compared r p q c) where
-  -- A verdict on places that are not refused is no refusal
-  not-refused : comparison_refusal r p q ≡ none → (why : Refusal) → c.verdict ≡ Refused why → ⊥
-  not-refused accepted why e =
+module _ (r : Record) (p q : ℕ) where
+  -- A comparison of places that are not refused is not refused
+  not-refused : (why : Refusal) → Compared r p q (Err why) → comparison_refusal r p q ≡ none → ⊥
+  not-refused why compared accepted =
       refused-gives
-      (sym (ap verdict_reply e) ∙ compared.verdict
+      (compared.verdict
       ∙ ap (λ (o : Option ℕ). reply o (verdict_on (chased_at r p).rows (search.mappable (query_at r q) (chased_at r p)))) accepted)
 
-  pub decides : Decides r p q c
-  decides =
+  -- The database of the chased query is one on which not all answers of p are answers of q
+  refutes : (query : Tableau) → Compared r p q (Ok (Apart query))
+      → containment.Contained (LegalForBoth (schema_of r) (dependencies_of r) (joins_of r)) (query_at r p) (query_at r q) → ⊥
+  refutes query compared contained = let x = compared.apart query refl in x.no_answer (contained _ x.within _ x.answer)
+
+  pub decides : (c : Result Verdict Refusal) → Compared r p q c → Decides r p q c
+  decides (Ok Never) compared =
+      record { exactly = λ accepted. ((λ says D legal. compared.contained says D legal.obeys), λ contained. tt); shown = λ accepted not. absurd (not tt) }
+  decides (Ok (Mapped images)) compared =
+      record { exactly = λ accepted. ((λ says D legal. compared.contained says D legal.obeys), λ contained. tt); shown = λ accepted not. absurd (not tt) }
+  decides (Ok (Apart query)) compared =
+      record { exactly = λ accepted. ((λ says. absurd says), refutes query compared); shown = λ accepted not. (query, refl, compared.apart query refl) }
+  decides (Err why) compared =
       record {
-        exactly = λ accepted. (
-          (λ says D legal. compared.contained says D legal.obeys),
-          λ contained. says-else c.verdict (not-refused accepted)
-              (λ e. let x = compared.apart e in x.no_answer (contained _ x.within _ x.answer)),
-        );
-        shown = λ accepted not. compared.apart (apart-else c.verdict (not-refused accepted) not);
+        exactly = λ accepted. ((λ says. absurd says), λ contained. absurd (not-refused why compared accepted));
+        shown = λ accepted not. absurd (not-refused why compared accepted);
       }
 
 true-false : true ≡ false → ⊥

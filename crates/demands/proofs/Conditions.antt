@@ -23,10 +23,8 @@ use Rattle.refusals.specs.declared.Refusal.{Refusal}
 use Rattle.refusals.specs.Refusal.{reply_of}
 use Rattle.record.specs.Calls.{concluded, add_dependency, add_join, put_query}
 use Rattle.record_calls.specs.Calls.{columns_reply, open_record, drop_query, determined_columns, blank_record}
-use Rattle.comparison.specs.declared.Comparison.{Comparison}
 use Rattle.comparison.specs.declared.Verdict.{Verdict}
-use Rattle.comparison.specs.declared.Verdict.TheVariants as verdict
-use Rattle.comparison.specs.Comparison.{pair_refusal, comparison_refusal, verdict_reply, verdict_on, chased_at, Compared, CheckedMapping}
+use Rattle.comparison.specs.Comparison.{pair_refusal, comparison_refusal, verdict_on, chased_at, Compared, CheckedMapping}
 use Rattle.reduction.specs.declared.Reduced.{Reduced}
 use Rattle.reduction.specs.Reduced.{reduction_refusal, reduction_conditions, IsReduced}
 use Rattle.words.specs.declared.Violation.{Violation}
@@ -109,20 +107,10 @@ determined-meets r relation left c e = reply-meets _ _ refl refl (columns_reply 
 
 -- ---- comparing, checking a mapping, reducing
 
--- A refused verdict is no other
-refused-else : (v : Verdict) (n : ℕ) → verdict_reply v ≡ refused n → ((v ≡ verdict.Mapped → ⊥) × (v ≡ verdict.Apart → ⊥))
-refused-else v n e =
-    ((λ c. refused-gives (sym e ∙ ap verdict_reply c)), λ a. refused-gives (sym e ∙ ap verdict_reply a))
-
-pub compare-meets : (r : Record) (p q : ℕ) (c : Comparison) → Compared r p q c → CompareMeets r p q c
+pub compare-meets : (r : Record) (p q : ℕ) (c : Result Verdict Refusal) → Compared r p q c → CompareMeets r p q c
 unfolding comparison_refusal follows
 compare-meets r p q c compared =
-    meets _ _ _ _ (ap refusal_in compared.verdict ∙ refusal-reply _ on)
-    (λ n f.
-    let e = compared.verdict ∙ ap (λ (y : Option ℕ). reply y on) f in
-    let other = refused-else c.verdict n e in
-    (compared.no-mapping other.0, compared.no-query other.1))
-    (λ f. compared) _ refl refl
+    meets _ _ _ _ (ap refusal_in compared.verdict ∙ refusal-reply _ on) (λ n f. tt) (λ f. compared) _ refl refl
   where
     on : ℕ
     on = verdict_on (chased_at r p).rows (search.mappable (query_at r q) (chased_at r p))

@@ -7,7 +7,7 @@ use Rattle.query.specs.declared.Dependency.{Dependency}
 use Rattle.query.specs.declared.JoinDependency.{JoinDependency}
 use Rattle.query.specs.Types.{Query}
 use Rattle.query.specs.View.{entries_of, mask_of}
-use Rattle.query.specs.Rule.{no_cell, no_tableau, no_place, place_with}
+use Rattle.query.specs.Rule.{no_cell, no_place, place_with}
 use Rattle.record.specs.declared.Record.{Record}
 use Rattle.record.specs.declared.Outcome.{Outcome}
 use Rattle.record_calls.specs.declared.Columns.{Columns}
@@ -18,7 +18,7 @@ use Rattle.refusals.specs.declared.Refusal.{Refusal}
 use Rattle.refusals.specs.Refusal.{reply_of}
 use Rattle.record.specs.Calls.{with_dependency, with_join}
 use Rattle.record.specs.Calls.{add_conditions, add_join_conditions, put_conditions}
-use Rattle.comparison.specs.declared.Comparison.{Comparison}
+use Rattle.comparison.specs.declared.Verdict.{Verdict}
 use Rattle.comparison.specs.Comparison.{pair_conditions, comparison_conditions, verdict_reply, Compared}
 use Rattle.reduction.specs.declared.Reduced.{Reduced}
 use Rattle.reduction.specs.Reduced.{reduction_conditions, IsReduced}
@@ -71,10 +71,8 @@ DeterminedMeets r relation left c =
 -- ---- comparing, checking a mapping, reducing
 
 -- Comparing two places: what is due leaves free only which mapping
-abbrev pub CompareMeets : Record → ℕ → ℕ → Comparison → Type 0
-CompareMeets r p q c =
-    Meets (comparison_conditions r p q) (compare_asks ∷ []) (refusal_in (verdict_reply c.verdict)) ((c.images ≡ replicate 96 no_cell) × (c.query ≡ no_tableau))
-    (Compared r p q c)
+abbrev pub CompareMeets : Record → ℕ → ℕ → Result Verdict Refusal → Type 0
+CompareMeets r p q c = Meets (comparison_conditions r p q) (compare_asks ∷ []) (refusal_in (verdict_reply c)) NothingToKeep (Compared r p q c)
 
 -- Checking a mapping
 abbrev pub CheckMeets : Record → ℕ → ℕ → List Cell → Result Bool Refusal → Type 0

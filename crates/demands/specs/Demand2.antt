@@ -1,5 +1,5 @@
 -- Demand 2: containment over all databases, the answers of conjunctive queries, and files that are written and read back.
-use Rattle.std.specs.Prelude.{Result, ◌≡◌, ◌↔◌, List, ℕ, ◌≤◌, length}
+use Rattle.std.specs.Prelude.{Result, Ok, ◌≡◌, ◌↔◌, List, ℕ, ◌≤◌, length}
 use Rattle.std.proofs.Math.Option.{none}
 use Rattle.query.specs.View.{query_of, as_query}
 use Rattle.record.specs.declared.Record.{Record}
@@ -7,7 +7,9 @@ use Rattle.record.specs.declared.Outcome.{Outcome}
 use Rattle.record.specs.View.{schema_of, dependencies_of, joins_of}
 use Rattle.refusals.specs.Refusals.{gives}
 use Rattle.record.specs.Calls.{outcome_reply, query_at}
-use Rattle.comparison.specs.declared.Comparison.{Comparison}
+use Rattle.query.specs.Types.{Tableau}
+use Rattle.comparison.specs.declared.Verdict.{Verdict}
+use Rattle.comparison.specs.declared.Verdict.TheVariants.{Apart}
 use Rattle.comparison.specs.Comparison.{comparison_refusal, SaysContained, base}
 use Rattle.words.specs.Words.{database_of}
 use Rattle.answers.specs.Ascending.{Ascending}
@@ -26,12 +28,13 @@ use Rattle.lists.specs.Over.{over}
 
 -- A comparison says contained exactly when on every database that obeys the held dependencies of both kinds each answer of p's query is an answer of q's;
 -- otherwise the query that it gives, read as a database, shows one on which this fails
-pub record Decides (r : Record) (p q : ℕ) (c : Comparison) : Type 0 where
+pub record Decides (r : Record) (p q : ℕ) (c : Result Verdict Refusal) : Type 0 where
   pub exactly : comparison_refusal r p q ≡ none
-      → SaysContained c.verdict ↔ Contained (LegalForBoth (schema_of r) (dependencies_of r) (joins_of r)) (query_at r p) (query_at r q)
-  pub shown : comparison_refusal r p q ≡ none → (SaysContained c.verdict → ⊥)
-      → Counterexample (LegalForBoth (schema_of r) (dependencies_of r) (joins_of r)) (query_at r p) (query_at r q)
-      (frozen_rows base (query_of (schema_of r) (as_query c.query))) (frozen_head base (query_of (schema_of r) (as_query c.query)))
+      → SaysContained c ↔ Contained (LegalForBoth (schema_of r) (dependencies_of r) (joins_of r)) (query_at r p) (query_at r q)
+  pub shown : comparison_refusal r p q ≡ none → (SaysContained c → ⊥)
+      → (query : Tableau) × (c ≡ Ok (Apart query))
+      × Counterexample (LegalForBoth (schema_of r) (dependencies_of r) (joins_of r)) (query_at r p) (query_at r q)
+      (frozen_rows base (query_of (schema_of r) (as_query query))) (frozen_head base (query_of (schema_of r) (as_query query)))
 
 -- ---- answers
 

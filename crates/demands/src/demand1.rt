@@ -4,7 +4,7 @@ ghost use Rattle.database.specs.Calls.{UnusedIfRefused};
 ghost use Rattle.demands.specs.Demand1Calls.{OpenMeets, AddMeets, AddJoinMeets, PutMeets, DropMeets, DeterminedMeets, CompareMeets, CheckMeets, ReduceMeets};
 ghost use Rattle.demands.specs.Demand1Calls.{TestMeets, EvaluateMeets, CountMeets, ReadMeets, WriteMeets};
 
-use comparison::Comparison;
+use comparison::Verdict;
 use query::{Cell, Dependency, JoinDependency, Query};
 use record::{Outcome, Record};
 use record_calls::Columns;
@@ -59,7 +59,7 @@ pub fn determined(given: Record, relation: u8, left: u8) -> Result<Columns, Refu
 // ---- queries
 
 // Compares the queries of two places.
-pub fn compare(given: Record, p: usize, q: usize) -> Comparison
+pub fn compare(given: Record, p: usize, q: usize) -> Result<Verdict, Refusal>
     ensures { CompareMeets given p q result }
 {
     comparison::compare(given, p, q)

@@ -1,12 +1,12 @@
 // Demand 2: containment is decided over all databases, answers are those of conjunctive queries, and files and records come back as they were.
 ghost use Rattle.demands.specs.Demand2.{Decides, Evaluates, FileComesBack, RecordComesBack};
 
-use comparison::Comparison;
+use comparison::Verdict;
 use record::{Outcome, Record};
 use refusals::Refusal;
 
 // Contained exactly when it is so on every database that obeys the dependencies; otherwise one is shown on which it is not.
-pub fn compare(given: Record, p: usize, q: usize) -> Comparison
+pub fn compare(given: Record, p: usize, q: usize) -> Result<Verdict, Refusal>
     ensures { Decides given p q result }
 {
     comparison::compare(given, p, q)

@@ -1,28 +1,28 @@
 // Two places compared, and a mapping checked, with the refusals and their order.
 // A line is the two places and the answer: the refusal's number; contained, with the images of v0, v1, v2 where there is a mapping; or not contained, with the
 // number of rows and the first row of the first query, chased; of a check yes or no. Relation 0 is R with columns a, b.
-use comparison::{Comparison, Verdict};
+use comparison::Verdict;
 use example_parts::queries::{pair, put_all};
 use example_parts::{queries, show};
 use query::{Cell, Entry, Query};
 use record::Record;
+use refusals::Refusal;
 use std::io;
 
 // Writes a comparison.
-fn comparison(rt: &impl Print, c: Comparison) -> io::Result<()> {
-    match c.verdict {
-        Verdict::Never => print!(rt; " contained, never")?,
-        Verdict::Mapped => {
+fn comparison(rt: &impl Print, compared: Result<Verdict, Refusal>) -> io::Result<()> {
+    match compared {
+        Ok(Verdict::Never) => print!(rt; " contained, never")?,
+        Ok(Verdict::Mapped(images)) => {
             print!(rt; " contained,")?;
-            show::images(rt, &c.images)?;
+            show::images(rt, &images)?;
         }
-        Verdict::Apart => {
-            let query = c.query;
+        Ok(Verdict::Apart(query)) => {
             print!(rt; " not contained, rows {}, first", query.size)?;
             show::cell(rt, query.cells[0])?;
             show::cell(rt, query.cells[1])?;
         }
-        Verdict::Refused(refusal) => print!(rt; " {}", u8::from(refusal))?,
+        Err(refusal) => print!(rt; " {}", u8::from(refusal))?,
     }
     println!(rt;)
 }

@@ -43,10 +43,11 @@ use Rattle.format.proofs.Parts.{Narrow, query-lawful}
 use Rattle.format.proofs.Results.{bind_ok, complete-get}
 use Rattle.format.proofs.Rules.{good-narrow, query-good, good-query}
 use Rattle.format.proofs.RoundTrip.{sound-record, file-written-back, record-read-back}
-use Rattle.comparison.specs.declared.Comparison.{Comparison}
+use Rattle.std.specs.Prelude.{Result, Ok, Err}
+use Rattle.refusals.specs.declared.Refusal.{Refusal}
 use Rattle.comparison.specs.declared.Verdict.{Verdict}
 use Rattle.comparison.specs.declared.Verdict.TheVariants as verdict
-use Rattle.comparison.specs.Comparison.{outcome_at, chased_at, verdict_reply, verdict_on, verdict_of, Compared}
+use Rattle.comparison.specs.Comparison.{outcome_at, chased_at, verdict_on, verdict_of, Compared, ComparisonShape}
 use Rattle.comparison.proofs.Pairs.{compare-over, compare-ends}
 use Rattle.joins.specs.JoinChase as join
 use Rattle.minimization.specs.Search as search
@@ -54,7 +55,7 @@ use Rattle.reduction.specs.declared.Reduced.{Reduced}
 use Rattle.lent_numbers.specs.Lent.{returned, fitted, Wrote}
 use Rattle.record_on_files.specs.Records.{result_of, file_fitted, join_with, put_part}
 use Rattle.reduction_on_files.specs.Shortening.{ReductionGiven, Reducing}
-use Rattle.comparison_on_files.specs.Queries.{comparison_fits, ComparisonGiven, ComparisonShape, Comparing}
+use Rattle.comparison_on_files.specs.Queries.{comparison_fits, ComparisonGiven, Comparing}
 use Rattle.files_left.specs.Legible.{FileLeft, WriteLeft, OpenLeft, AddLeft, AddJoinLeft, PutLeft, DropLeft, ReduceLeft, CompareLeft}
 use Rattle.lent_numbers.proofs.Lent.{goes_on}
 use Rattle.comparison_on_files.proofs.Verdicts.{comparison-apart, comparison-contained, comparison-never, comparison-refused}
@@ -268,7 +269,7 @@ compare-left file hb p q r e clear said mapping part size mapping_after part_aft
     let (c, is, shape, pictures, same) = subst (λ (x : Reply Record). Comparing x p q g.result g.images (length mapping) (length part)) e g.comparing
     in
     let k = subst (λ (x : Reply (ℕ × List ℕ)). Given x g.images) same g.given in
-    go c is shape g.images k c.verdict refl
+    go c is shape g.images k
   where
     Given : Reply (ℕ × List ℕ) → List Cell → Type 0
     Given x images = ComparisonGiven x images said mapping part size 0 0 mapping_after part_after size_after
@@ -297,28 +298,28 @@ compare-left file hb p q r e clear said mapping part size mapping_after part_aft
     not-refused n says (join.chased C) ends late e =
         refused-gives (says ∙ ap (λ (x : Option ℕ). reply x found) (compare-ends r p q clear C ends))
 
-    go : (c : Comparison) → Compared r p q c → ComparisonShape c → (images : List Cell)
+    go : (c : Result Verdict Refusal) → Compared r p q c → ComparisonShape c → (images : List Cell)
         → Given (comparison_fits (length mapping) (length part) (schema_of r) c) images
-        → (v : Verdict) → c.verdict ≡ v
         → (chased : Query) × ((query_for 24 (schema_of r)).get (take size_after part_after) ≡ got chased []) × (query_of (schema_of r) chased ≡ chased_at r p)
-    go c is shape images k verdict.Apart a =
-        let chased : Query = as_query c.query in
+    go (Ok (verdict.Apart query)) is shape images k =
+        let chased : Query = as_query query in
         let bytes = (query_for 24 (schema_of r)).put chased in
         let same = (given_back 0 bytes images (leb 192 (length mapping) && leb (length bytes) (length part))
-        (subst (λ (x : Reply (ℕ × List ℕ)). Given x images) (comparison-apart (length mapping) (length part) (schema_of r) c a) k)).1 in
-        let narrow = good-narrow r.relations r.widths (good-record r (read_whole file hb r e).0).relations in (
+        (subst (λ (x : Reply (ℕ × List ℕ)). Given x images) (comparison-apart (length mapping) (length part) (schema_of r) query) k)).1 in
+        let narrow = good-narrow r.relations r.widths (good-record r (read_whole file hb r e).0).relations in
+        let shown = is.chased query refl in (
           chased,
           ap (query_for 24 (schema_of r)).get (same ∙ sym (append-nil bytes))
-              ∙ (query-lawful 24 (schema_of r) narrow).get-put chased [] (query-good 24 (schema_of r) chased shape.0 (is.chased a).1),
-          (is.chased a).0,
+              ∙ (query-lawful 24 (schema_of r) narrow).get-put chased [] (query-good 24 (schema_of r) chased shape shown.1),
+          shown.0,
         )
-    go c is shape images k verdict.Mapped a =
+    go (Ok (verdict.Mapped found)) is shape images k =
         let z = (given_back 1 [] images (leb 192 (length mapping) && leb 0 (length part))
-        (subst (λ (x : Reply (ℕ × List ℕ)). Given x images) (comparison-contained (length mapping) (length part) (schema_of r) c a) k)).0 in absurd (omega arith)
-    go c is shape images k verdict.Never a =
+        (subst (λ (x : Reply (ℕ × List ℕ)). Given x images) (comparison-contained (length mapping) (length part) (schema_of r) found) k)).0 in absurd (omega arith)
+    go (Ok verdict.Never) is shape images k =
         let z = (given_back 2 [] images (leb 192 (length mapping) && leb 0 (length part))
-        (subst (λ (x : Reply (ℕ × List ℕ)). Given x images) (comparison-never (length mapping) (length part) (schema_of r) c a) k)).0 in absurd (omega arith)
-    go c is shape images k (verdict.Refused why) a =
+        (subst (λ (x : Reply (ℕ × List ℕ)). Given x images) (comparison-never (length mapping) (length part) (schema_of r)) k)).0 in absurd (omega arith)
+    go (Err why) is shape images k =
         absurd
-        (not-refused (number_of why) (sym (ap verdict_reply a) ∙ is.verdict) (outcome_at r p) refl (ltb (length mapping) 192)
-        (subst (λ (x : Reply (ℕ × List ℕ)). Given x images) (comparison-refused (length mapping) (length part) (schema_of r) c why a) k).0)
+        (not-refused (number_of why) is.verdict (outcome_at r p) refl (ltb (length mapping) 192)
+        (subst (λ (x : Reply (ℕ × List ℕ)). Given x images) (comparison-refused (length mapping) (length part) (schema_of r) why) k).0)
