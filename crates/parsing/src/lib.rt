@@ -94,20 +94,6 @@ fn read_entries(s: &[u8], n: usize) -> Option<([Cell; 8], &[u8])>
 
 // ---- rows
 
-// A row: the relation byte and one entry a column.
-fn read_row(s: &[u8], schema: Schema) -> Option<((u8, [Cell; 8]), &[u8])>
-    ensures { reading_of result ≡ (row (widths_in schema)).get s.now }
-{
-    let (relation, rest) = s.split_first()?;
-    let relation = *relation;
-    if schema.relations <= relation {
-        return None;
-    }
-    let width = schema.width_of(relation) as usize;
-    let (cells, rest) = read_entries(rest, width)?;
-    Some(((relation, cells), rest))
-}
-
 // The relations and cells of some rows.
 #[derive(Clone, Copy)]
 pub struct StoredRows {
@@ -115,7 +101,7 @@ pub struct StoredRows {
     pub cells: [Cell; 96],
 }
 
-// Rows, of which each is stored where it belongs.
+// Rows: for each the relation byte and one entry a column, which are stored where they belong.
 // Kept as it is: r names both the relation's slot and the row's cells.
 fn read_rows(s: &[u8], size: usize, schema: Schema) -> Option<(StoredRows, &[u8])>
     requires { size ≤ 12 }
@@ -125,7 +111,13 @@ fn read_rows(s: &[u8], size: usize, schema: Schema) -> Option<(StoredRows, &[u8]
     let mut cells = [NO_CELL; 96];
     let mut rest = s;
     for r in 0..size {
-        let ((relation, row), after) = read_row(rest, schema)?;
+        let (relation, entries) = rest.split_first()?;
+        let relation = *relation;
+        if schema.relations <= relation {
+            return None;
+        }
+        let width = schema.width_of(relation) as usize;
+        let (row, after) = read_entries(entries, width)?;
         relations[r] = relation;
         cells[8 * r..8 * r + 8].copy_from_slice(&row);
         rest = after;
