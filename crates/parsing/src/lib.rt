@@ -8,10 +8,10 @@ ghost use Rattle.lists.specs.Over.{pad};
 ghost use Rattle.limits.specs.Schema.{widths_in};
 ghost use Rattle.refusals.specs.Refusals.{bad_relations};
 ghost use Rattle.format.specs.Bytes.{number};
-ghost use Rattle.format.specs.Format.{get_byte, map_reading};
-ghost use Rattle.format.specs.Parts.{entry, entries, row, rows, query, relations, dependency, dependencies, join};
+ghost use Rattle.format.specs.Format.{get_byte, get_times, map_reading};
+ghost use Rattle.format.specs.Parts.{entry, rows, query, relations, dependency, dependencies, join};
 ghost use Rattle.format.specs.File.{complete, read_joins};
-ghost use Rattle.parsing.specs.internal.Read.{value_given, reading_of, relations_in, stored_rows};
+ghost use Rattle.parsing.specs.internal.Read.{value_given, reading_of, read_into, relations_in, stored_rows};
 
 use limits::schema::Schema;
 use query::{
@@ -76,20 +76,17 @@ fn read_entry(s: &[u8]) -> Option<(Cell, &[u8])>
     }
 }
 
-// n entries, in 8 cells.
-// Kept as it is: through a `take` of `iter_mut` in place of i a proof knows nothing of the cells.
-fn read_entries(s: &[u8], n: usize) -> Option<([Cell; 8], &[u8])>
-    requires { n ≤ 8 }
-    ensures { reading_of result ≡ (entries n).get s.now }
+// As many entries as there are cells, into them.
+fn read_entries<'a>(s: &'a [u8], cells: &mut [Cell]) -> Option<&'a [u8]>
+    ensures { read_into cells.new result ≡ get_times entry.get (length cells.old) s.now }
 {
-    let mut cells = [NO_CELL; 8];
     let mut rest = s;
-    for i in 0..n {
-        let (cell, after) = read_entry(rest)?;
-        cells[i] = cell;
+    for cell in cells.iter_mut() {
+        let (read, after) = read_entry(rest)?;
+        *cell = read;
         rest = after;
     }
-    Some((cells, rest))
+    Some(rest)
 }
 
 // ---- rows
@@ -117,10 +114,8 @@ fn read_rows(s: &[u8], size: usize, schema: Schema) -> Option<(StoredRows, &[u8]
             return None;
         }
         let width = schema.width_of(relation) as usize;
-        let (row, after) = read_entries(entries, width)?;
+        rest = read_entries(entries, &mut cells[8 * r..8 * r + width])?;
         relations[r] = relation;
-        cells[8 * r..8 * r + 8].copy_from_slice(&row);
-        rest = after;
     }
     Some((StoredRows { relations, cells }, rest))
 }
@@ -134,7 +129,8 @@ pub fn read_query(part: &[u8], schema: Schema) -> Option<(Query, &[u8])>
     let (arity, rest) = read_byte(part, 0, 8)?;
     let (size, rest) = read_byte(rest, 0, 12)?;
     let used = limits::head_in_use(arity, size);
-    let (head, rest) = read_entries(rest, used)?;
+    let mut head = [NO_CELL; 8];
+    let rest = read_entries(rest, &mut head[..used])?;
     let (rows, rest) = read_rows(rest, size as usize, schema)?;
     let StoredRows { relations, cells } = rows;
     let query = Query {
@@ -182,7 +178,7 @@ fn read_dependency(s: &[u8], schema: Schema) -> Option<(Dependency, &[u8])>
 }
 
 // The front of part 1: the count of functional dependencies, then each of them.
-// Kept as it is: as with `read_entries`, a proof knows nothing of what is written through a `take` of `iter_mut`.
+// Kept as it is: only the first n slots are filled, and through a `take` of `iter_mut` a proof knows nothing of them.
 pub fn read_dependencies(part: &[u8], schema: Schema) -> Option<((u8, [Dependency; 32]), &[u8])>
     ensures { reading_of result ≡ (dependencies (widths_in schema)).get part.now }
 {
@@ -238,7 +234,7 @@ fn read_join(s: &[u8], schema: Schema) -> Option<(JoinDependency, &[u8])>
 }
 
 // What is left of part 1 after the functional dependencies: nothing, or the count of join dependencies and each of them.
-// Kept as it is: as with `read_entries`, a proof knows nothing of what is written through a `take` of `iter_mut`.
+// Kept as it is: only the first n slots are filled, and through a `take` of `iter_mut` a proof knows nothing of them.
 pub fn read_joins(part: &[u8], schema: Schema) -> Option<(u8, [JoinDependency; 4])>
     ensures { result ≡ value_given (read_joins (widths_in schema) part.now) }
 {
