@@ -178,7 +178,7 @@ fn read_dependency(s: &[u8], schema: Schema) -> Option<(Dependency, &[u8])>
 }
 
 // The front of part 1: the count of functional dependencies, then each of them.
-// Kept as it is: only the first n slots are filled, and through a `take` of `iter_mut` a proof knows nothing of them.
+// Kept as it is: i names the slot; to go over the first n slots instead takes a function of its own that they are lent to, as `read_entries` has.
 pub fn read_dependencies(part: &[u8], schema: Schema) -> Option<((u8, [Dependency; 32]), &[u8])>
     ensures { reading_of result ≡ (dependencies (widths_in schema)).get part.now }
 {
@@ -235,7 +235,7 @@ fn read_join(s: &[u8], schema: Schema) -> Option<(JoinDependency, &[u8])>
 }
 
 // What is left of part 1 after the functional dependencies: nothing, or the count of join dependencies and each of them.
-// Kept as it is: only the first n slots are filled, and through a `take` of `iter_mut` a proof knows nothing of them.
+// Kept as it is: i names the slot; to go over the first n slots instead takes a function of its own that they are lent to, as `read_entries` has.
 pub fn read_joins(part: &[u8], schema: Schema) -> Option<(u8, [JoinDependency; 4])>
     ensures { result ≡ value_given (read_joins (widths_in schema) part.now) }
 {
