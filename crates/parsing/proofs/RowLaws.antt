@@ -1,23 +1,38 @@
 -- A row by its bytes, and rows kept in flat arrays.
 use mathlib.Core.Path.{◌≡◌, sym, ap, ◌∙◌}
+use mathlib.Core.Bool.{Bool}
 use mathlib.Core.List.{List, [], ◌∷◌, ◌++◌, append_assoc}
-use Prim.Native.Nat.{ℕ, zero, suc, ◌+◌, ◌*◌, ◌≤◌, ◌<◌}
+use Prim.Native.Nat.{ℕ, zero, suc, ◌+◌, ◌*◌, ◌-◌, ◌≤◌, ◌<◌}
 use native.Mathlib.Omega.{arith}
 use lib.Dec.{ltb}
-use lib.ListN.{length, get_or, take, drop, set}
+use lib.ListN.{length, get_or, take, drop, set, replicate, length-append, length-replicate, replicate-append-replicate, take-append-drop}
 use lib.Seq.{drop-drop, take_at, drop_at, length-take-le}
 use borrow.Author.Tests.{le-ltb, lt-ltb}
 use Rattle.query.specs.declared.Cell.{Cell}
-use Rattle.lists.specs.Over.{over}
-use Rattle.format.specs.Format.{none, got, map_reading, byte}
-use Rattle.format.specs.Parts.{entries, row, chunk}
+use Rattle.query.specs.Rule.{no_cell}
+use Rattle.lists.specs.Over.{over, pad}
+use Rattle.lists.proofs.Loops.{replicate-drop}
+use Rattle.format.specs.Format.{none, got, map_reading, get_times, byte, padded}
+use Rattle.format.specs.Parts.{entry, entries, row, chunk}
 use Rattle.parsing.proofs.Positions.{no-byte, byte-bad, byte-good}
 use Rattle.parsing.proofs.Counted.{sequence-none, sequence-got}
+
+-- ---- entries in 8 cells
+
+module _ (n : ℕ) (bytes : List ℕ) where
+  pub entries-none : get_times entry.get n bytes ≡ none → (entries n).get bytes ≡ none
+  unfolding entries padded map_reading
+  entries-none e = rw e
+
+  pub entries-got : (cells : List Cell) (rest : List ℕ) → get_times entry.get n bytes ≡ got cells rest
+      → (entries n).get bytes ≡ got (pad 8 no_cell cells) rest
+  unfolding entries padded map_reading
+  entries-got cells rest e = rw e
 
 -- ---- one row
 
 module _ (schema : List ℕ) where
-  abbrev known : ℕ → mathlib.Core.Bool.Bool
+  abbrev known : ℕ → Bool
   known r = ltb r (length schema)
 
   pub no-row : (s : List ℕ) → length s ≡ 0 → none ≡ (row schema).get s
@@ -82,3 +97,18 @@ chunk-set (y ∷ rs) cells (suc r) x cs h l k =
     ap (λ (m : ℕ). drop 8 (over cells m cs)) n ∙ drop-over 8 cells (8 * r) cs lt in
     ap {B = List (ℕ × List Cell)} (λ c. (y, c) ∷ chunk (set rs r x) (drop 8 (over cells (8 * suc r) cs))) t
     ∙ ap {B = List (ℕ × List Cell)} (λ c. (y, take 8 cells) ∷ chunk (set rs r x) c) d ∙ ap {B = List (ℕ × List Cell)} (λ c. (y, take 8 cells) ∷ c) ih
+
+-- blanks over blanks
+pub blank-over : {A : Type 0} (xs : List A) (k n m : ℕ) (blank : A) → drop k xs ≡ replicate m blank → n ≤ m → over xs k (replicate n blank) ≡ xs
+blank-over {A = A} xs k n m blank e h =
+    let d : drop (k + n) xs ≡ replicate (m - n) blank = sym (drop-drop n k xs) ∙ ap (λ (ys : List A). drop n ys) e ∙ replicate-drop n m blank in
+    let t : n + (m - n) ≡ m = omega arith in
+    let j : replicate n blank ++ replicate (m - n) blank ≡ replicate m blank = replicate-append-replicate n (m - n) blank ∙ rw t in
+    rw (length-replicate n blank, d, append_assoc (take k xs) (replicate n blank) (replicate (m - n) blank), j, ← e) (take-append-drop k xs)
+
+-- what stands after what is written over a list
+pub drop-past-over : {A : Type 0} (xs : List A) (k n : ℕ) (ys : List A) → k ≤ length xs → length ys ≡ n → drop (k + n) (over xs k ys) ≡ drop (k + n) xs
+drop-past-over xs k n ys h e =
+    let lt : length (take k xs) ≡ k = length-take-le k xs h in
+    let l : length (take k xs ++ ys) ≡ k + n = length-append (take k xs) ys ∙ rw (lt, e) in
+    drop_at (take k xs ++ ys) (drop (k + length ys) xs) (k + n) l ∙ rw e

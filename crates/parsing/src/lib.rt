@@ -8,10 +8,10 @@ ghost use Rattle.lists.specs.Over.{pad};
 ghost use Rattle.limits.specs.Schema.{widths_in};
 ghost use Rattle.refusals.specs.Refusals.{bad_relations};
 ghost use Rattle.format.specs.Bytes.{number};
-ghost use Rattle.format.specs.Format.{get_byte, map_reading};
-ghost use Rattle.format.specs.Parts.{entry, entries, row, rows, query, relations, dependency, dependencies, join};
+ghost use Rattle.format.specs.Format.{get_byte, get_times, map_reading};
+ghost use Rattle.format.specs.Parts.{entry, rows, query, relations, dependency, dependencies, join};
 ghost use Rattle.format.specs.File.{complete, read_joins};
-ghost use Rattle.parsing.specs.internal.Read.{value_given, reading_of, relations_in, stored_rows};
+ghost use Rattle.parsing.specs.internal.Read.{value_given, reading_of, read_into, relations_in, stored_rows};
 
 use limits::schema::Schema;
 use query::{
@@ -76,37 +76,20 @@ fn read_entry(s: &[u8]) -> Option<(Cell, &[u8])>
     }
 }
 
-// n entries, in 8 cells.
-// Kept as it is: through a `take` of `iter_mut` in place of i a proof knows nothing of the cells.
-fn read_entries(s: &[u8], n: usize) -> Option<([Cell; 8], &[u8])>
-    requires { n ≤ 8 }
-    ensures { reading_of result ≡ (entries n).get s.now }
+// As many entries as there are cells, into them.
+fn read_entries<'a>(s: &'a [u8], cells: &mut [Cell]) -> Option<&'a [u8]>
+    ensures { read_into cells.new result ≡ get_times entry.get (length cells.old) s.now }
 {
-    let mut cells = [NO_CELL; 8];
     let mut rest = s;
-    for i in 0..n {
-        let (cell, after) = read_entry(rest)?;
-        cells[i] = cell;
+    for cell in cells.iter_mut() {
+        let (read, after) = read_entry(rest)?;
+        *cell = read;
         rest = after;
     }
-    Some((cells, rest))
+    Some(rest)
 }
 
 // ---- rows
-
-// A row: the relation byte and one entry a column.
-fn read_row(s: &[u8], schema: Schema) -> Option<((u8, [Cell; 8]), &[u8])>
-    ensures { reading_of result ≡ (row (widths_in schema)).get s.now }
-{
-    let (relation, rest) = s.split_first()?;
-    let relation = *relation;
-    if schema.relations <= relation {
-        return None;
-    }
-    let width = schema.width_of(relation) as usize;
-    let (cells, rest) = read_entries(rest, width)?;
-    Some(((relation, cells), rest))
-}
 
 // The relations and cells of some rows.
 #[derive(Clone, Copy)]
@@ -115,7 +98,7 @@ pub struct StoredRows {
     pub cells: [Cell; 96],
 }
 
-// Rows, of which each is stored where it belongs.
+// Rows: for each the relation byte and one entry a column, which are stored where they belong.
 // Kept as it is: r names both the relation's slot and the row's cells.
 fn read_rows(s: &[u8], size: usize, schema: Schema) -> Option<(StoredRows, &[u8])>
     requires { size ≤ 12 }
@@ -125,10 +108,14 @@ fn read_rows(s: &[u8], size: usize, schema: Schema) -> Option<(StoredRows, &[u8]
     let mut cells = [NO_CELL; 96];
     let mut rest = s;
     for r in 0..size {
-        let ((relation, row), after) = read_row(rest, schema)?;
+        let (relation, entries) = rest.split_first()?;
+        let relation = *relation;
+        if schema.relations <= relation {
+            return None;
+        }
+        let width = schema.width_of(relation) as usize;
+        rest = read_entries(entries, &mut cells[8 * r..8 * r + width])?;
         relations[r] = relation;
-        cells[8 * r..8 * r + 8].copy_from_slice(&row);
-        rest = after;
     }
     Some((StoredRows { relations, cells }, rest))
 }
@@ -142,7 +129,8 @@ pub fn read_query(part: &[u8], schema: Schema) -> Option<(Query, &[u8])>
     let (arity, rest) = read_byte(part, 0, 8)?;
     let (size, rest) = read_byte(rest, 0, 12)?;
     let used = limits::head_in_use(arity, size);
-    let (head, rest) = read_entries(rest, used)?;
+    let mut head = [NO_CELL; 8];
+    let rest = read_entries(rest, &mut head[..used])?;
     let (rows, rest) = read_rows(rest, size as usize, schema)?;
     let StoredRows { relations, cells } = rows;
     let query = Query {
@@ -190,7 +178,7 @@ fn read_dependency(s: &[u8], schema: Schema) -> Option<(Dependency, &[u8])>
 }
 
 // The front of part 1: the count of functional dependencies, then each of them.
-// Kept as it is: as with `read_entries`, a proof knows nothing of what is written through a `take` of `iter_mut`.
+// Kept as it is: i names the slot; to go over the first n slots instead takes a function of its own that they are lent to, as `read_entries` has.
 pub fn read_dependencies(part: &[u8], schema: Schema) -> Option<((u8, [Dependency; 32]), &[u8])>
     ensures { reading_of result ≡ (dependencies (widths_in schema)).get part.now }
 {
@@ -209,6 +197,7 @@ pub fn read_dependencies(part: &[u8], schema: Schema) -> Option<((u8, [Dependenc
 // ---- part 1: join dependencies
 
 // At most 4 sets from a position on, and 0 for each that is not in use.
+// Kept as it is: `passes::bound_at` copies alike, but words, of which there are 8, and in a crate that has nothing to do with files.
 pub fn read_sets(part: &[u8], at: usize, n: usize) -> [u8; 4]
     requires { (n ≤ 4) × (at + n ≤ length part.now) }
     ensures { result ≡ pad 4 0 (take n (drop at part.now)) }
@@ -246,7 +235,7 @@ fn read_join(s: &[u8], schema: Schema) -> Option<(JoinDependency, &[u8])>
 }
 
 // What is left of part 1 after the functional dependencies: nothing, or the count of join dependencies and each of them.
-// Kept as it is: as with `read_entries`, a proof knows nothing of what is written through a `take` of `iter_mut`.
+// Kept as it is: i names the slot; to go over the first n slots instead takes a function of its own that they are lent to, as `read_entries` has.
 pub fn read_joins(part: &[u8], schema: Schema) -> Option<(u8, [JoinDependency; 4])>
     ensures { result ≡ value_given (read_joins (widths_in schema) part.now) }
 {

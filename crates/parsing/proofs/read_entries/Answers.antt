@@ -1,36 +1,27 @@
 -- `read_entries` meets its contract. Invariant: the whole reading is what is in the cells so far with what the bytes left give. Assumes nothing.
 use mathlib.Core.Path.{refl, sym, ap, ◌∙◌}
-use mathlib.Core.List.{List}
-use Prim.Native.Nat.{ℕ}
-use native.Mathlib.Omega.{arith}
 use borrow.Author.Rules.{rules}
-use lib.ListN.{replicate, length-set}
-use Rattle.query.specs.Rule.{no_cell}
-use Rattle.format.specs.Format.{padded}
-use Rattle.format.specs.Parts.{entry, entries}
-use Rattle.format.proofs.Filling.{Filling, filling-starts, filling-turns, filling-fails, filling-ends}
-use Rattle.parsing.specs.internal.Read.{reading_of}
+use lib.ListN.{length, length-set}
+use Rattle.format.specs.Parts.{entry}
+use Rattle.format.proofs.Filling.{filling-turns, filling-fails, filling-ends}
+use Rattle.parsing.specs.internal.Read.{reading_of, read_into}
+use Rattle.parsing.proofs.Times.{into-starts}
 use Rattle.parsing.proofs.read_entries.Goals as goal
 
-begins : (s : List ℕ) (n : ℕ) → Filling entry.get ((entries n).get s) n (replicate 8 no_cell) 0 s
-unfolding entries padded
-begins s n = filling-starts entry.get 8 no_cell n s
+pub loop-cell-init : goal.loop-cell-init
+loop-cell-init c = (refl, into-starts entry.get (length c.args.cells.now) c.args.cells.now c.args.s.now refl)
 
-pub loop-i-init : goal.loop-i-init
-loop-i-init c = (omega arith, refl, begins c.args.s.now c.args.n)
+pub returns-in_err-read : goal.returns-in_err-read
+returns-in_err-read c =
+    ap (read_into _) c.from_residual.ensures
+    ∙ sym (filling-fails c.loop-cell.invariant.1 (search rules) (sym c.read_entry.ensures ∙ ap reading_of c.in_err-read.was))
 
-pub returns-in_err-cell : goal.returns-in_err-cell
-returns-in_err-cell c =
-    ap reading_of c.from_residual.ensures
-    ∙ sym (filling-fails c.loop-i.invariant.2 c.loop-i-test.true (sym c.read_entry.ensures ∙ ap reading_of c.in_err-cell.was))
-
-pub loop-i-preserved : goal.loop-i-preserved
-loop-i-preserved c = (
-  search rules,
-  length-set c.loop-i.cells c.loop-i.i c.in_ok-cell.cell ∙ c.loop-i.invariant.1,
-  filling-turns c.loop-i.invariant.2 c.in_ok-cell.cell c.in_ok-cell.after.now c.loop-i-test.true (omega arith)
-      (sym c.read_entry.ensures ∙ ap reading_of c.in_ok-cell.was),
+pub loop-cell-preserved : goal.loop-cell-preserved
+loop-cell-preserved c = (
+  length-set c.loop-cell.cells c.loop-cell.cell-index c.in_ok-read.read ∙ c.loop-cell.invariant.0,
+  filling-turns c.loop-cell.invariant.1 c.in_ok-read.read c.in_ok-read.after.now (search rules) (search rules)
+      (sym c.read_entry.ensures ∙ ap reading_of c.in_ok-read.was),
 )
 
 pub returns : goal.returns
-returns c = sym (filling-ends c.loop-i.invariant.2 c.loop-i-test.false)
+returns c = sym (filling-ends c.loop-cell.invariant.1 (search rules))

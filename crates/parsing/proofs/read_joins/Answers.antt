@@ -20,6 +20,7 @@ use Rattle.parsing.specs.internal.Read.{value_given, reading_of}
 use Rattle.parsing.proofs.Counted.{byte-read, no-count, counting-starts, counting-turns, counting-fails, counting-ends, counting-long}
 use Rattle.parsing.proofs.read_joins.Invariants.{At}
 use Rattle.parsing.proofs.read_joins.Goals as goal
+use Rattle.parsing.proofs.read_joins.Goals.{Else-is_empty}
 
 no_bytes : (schema part : List ℕ) → length part ≡ 0 → Some (0, replicate 4 no_join) ≡ value_given (read_joins schema part)
 unfolding read_joins
@@ -62,26 +63,30 @@ module _ (schema part : List ℕ) (some : length part ≡ 0 → ⊥) where
     accepted l t =
         sym (ap value_given (some_bytes schema part some ∙ counting-ends (between 1 4) 4 no_join unused_join (join schema) part f bad_join l t))
 
+-- There are bytes
+some_left : (c : Else-is_empty) → length c.args.part.now ≡ 0 → ⊥
+some_left c = eqb-false _ _ (sym c.is_empty.ensures ∙ c.if-is_empty.false)
+
 pub returns-then-is_empty : goal.returns-then-is_empty
 returns-then-is_empty c = no_bytes (widths_in c.args.schema) c.args.part.now (eqb-true _ _ (sym c.is_empty.ensures ∙ c.if-is_empty.true))
 
 pub returns-in_err-joined : goal.returns-in_err-joined
 returns-in_err-joined c =
     c.from_residual.ensures
-    ∙ no-joins-read (widths_in c.args.schema) c.args.part.now (eqb-false _ _ (sym c.is_empty.ensures ∙ c.if-is_empty.false))
+    ∙ no-joins-read (widths_in c.args.schema) c.args.part.now (some_left (goal.at.returns-in_err-joined c).Else-is_empty)
     (sym c.read_byte.ensures ∙ ap reading_of c.in_err-joined.was)
 
 pub loop-i-init : goal.loop-i-init
 loop-i-init c =
     let (few, f) =
-    begins (widths_in c.args.schema) c.args.part.now (eqb-false _ _ (sym c.is_empty.ensures ∙ c.if-is_empty.false)) c.in_ok-joined.joined
+    begins (widths_in c.args.schema) c.args.part.now (some_left (goal.at.loop-i-init c).Else-is_empty) c.in_ok-joined.joined
     c.in_ok-joined.front.now (sym c.read_byte.ensures ∙ ap reading_of c.in_ok-joined.was) in
     (omega arith, few, refl, f)
 
 pub returns-in_err-j : goal.returns-in_err-j
 returns-in_err-j c =
     c.from_residual-in_err-j.ensures
-    ∙ fails (widths_in c.args.schema) c.args.part.now (eqb-false _ _ (sym c.is_empty.ensures ∙ c.if-is_empty.false)) _ _ _ _ c.loop-i.invariant.3
+    ∙ fails (widths_in c.args.schema) c.args.part.now (some_left (goal.at.returns-in_err-j c).Else-is_empty) _ _ _ _ c.loop-i.invariant.3
     c.loop-i-test.true (sym c.read_join.ensures ∙ ap reading_of c.in_err-j.was)
 
 pub loop-i-preserved : goal.loop-i-preserved
@@ -89,16 +94,16 @@ loop-i-preserved c = (
   search rules,
   c.loop-i.invariant.1,
   length-set c.loop-i.joins c.loop-i.i c.in_ok-j.j ∙ c.loop-i.invariant.2,
-  goes_on (widths_in c.args.schema) c.args.part.now (eqb-false _ _ (sym c.is_empty.ensures ∙ c.if-is_empty.false)) _ _ _ _ c.loop-i.invariant.3
+  goes_on (widths_in c.args.schema) c.args.part.now (some_left (goal.at.loop-i-preserved c).Else-is_empty) _ _ _ _ c.loop-i.invariant.3
       c.loop-i-test.true (omega arith) c.in_ok-j.j c.in_ok-j.after.now (sym c.read_join.ensures ∙ ap reading_of c.in_ok-j.was),
 )
 
 pub returns-then-not-is_empty : goal.returns-then-not-is_empty
 returns-then-not-is_empty c =
-    too_long (widths_in c.args.schema) c.args.part.now (eqb-false _ _ (sym c.is_empty.ensures ∙ c.if-is_empty.false)) _ _ _ _ c.loop-i.invariant.3
+    too_long (widths_in c.args.schema) c.args.part.now (some_left (goal.at.returns-then-not-is_empty c).Else-is_empty) _ _ _ _ c.loop-i.invariant.3
     c.loop-i-test.false (eqb-false _ _ (sym c.is_empty-2.ensures ∙ c.if-not-is_empty.true))
 
 pub returns : goal.returns
 returns c =
-    accepted (widths_in c.args.schema) c.args.part.now (eqb-false _ _ (sym c.is_empty.ensures ∙ c.if-is_empty.false)) _ _ _ _ c.loop-i.invariant.3
+    accepted (widths_in c.args.schema) c.args.part.now (some_left (goal.at.returns c).Else-is_empty) _ _ _ _ c.loop-i.invariant.3
     c.loop-i-test.false (eqb-true _ _ (sym c.is_empty-2.ensures ∙ c.if-not-is_empty.false))

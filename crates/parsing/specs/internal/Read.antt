@@ -23,6 +23,11 @@ abbrev pub reading_of : {A : Type 0} → Option (A × Bor (List ℕ)) → Readin
 reading_of None = none
 reading_of (Some p) = got p.0 p.1.now
 
+-- What was read into some room, with the bytes after it
+abbrev pub read_into : {A : Type 0} → List A → Option (Bor (List ℕ)) → Reading (List A)
+read_into xs None = none
+read_into xs (Some rest) = got xs rest.now
+
 -- The relations and cells of some rows
 abbrev pub stored_rows : List (ℕ × List Cell) → StoredRows
 stored_rows rs = record { relations = map (λ r. r.0) rs; cells = flat rs }
