@@ -1,6 +1,7 @@
 // The search for the row that a join dependency asks for (SPECIFICATION, The chase with join dependencies): over rows as codes of entries, 8 to a row, of which size are in use.
 // What is chosen so far is one code for each column, or `FREE` where no set has the column yet. A column that a row's relation does not have
 // stands in no set.
+// Kept as it is: `size` ends the rows of both arrays, and `firsts` looks at all 24 of each, so that no slice of one of them stands for it.
 #![tactic(auto)]
 
 ghost use Rattle.std.specs.Prelude.{◌≡◌, true, ◌+◌, ◌*◌, ◌≤◌, ◌<◌, take, drop};
