@@ -33,8 +33,7 @@ fn candidates(size: usize, count: usize, r: usize) -> usize
 }
 
 // The candidates of row q that go together with candidate d of row r.
-// Kept as it is: here and below source, target, size and count are four parameters. A struct of slices has two values in a contract, which would say
-// `ends.entry.source.now` for `source.now`.
+// Kept as it is: source, target, size and count stay parameters: of a struct of slices a contract would say `ends.entry.source.now` for `source.now`.
 fn together(
     source: &[u32],
     target: &[u32],
