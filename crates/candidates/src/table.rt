@@ -70,7 +70,8 @@ pub fn repeats(target: &[u32], offered: [u8; 24], d: usize) -> bool
     false
 }
 
-// Whether row r can go to candidate d at all: a row of the same relation, the first of its like, with the row's constants in their places and one entry for each of its variables.
+// Whether row r can go to candidate d at all: a row of the same relation, the first of its like, with the row's constants in their places and one entry for
+// each of its variables.
 fn possible(
     source: &[u32],
     target: &[u32],
