@@ -33,6 +33,7 @@ fn candidates(size: usize, count: usize, r: usize) -> usize
 }
 
 // The candidates of row q that go together with candidate d of row r.
+// Kept as it is: source, target, size and count stay parameters: of a struct of slices a contract would say `ends.entry.source.now` for `source.now`.
 fn together(
     source: &[u32],
     target: &[u32],
@@ -69,7 +70,8 @@ pub fn repeats(target: &[u32], offered: [u8; 24], d: usize) -> bool
     false
 }
 
-// Whether row r can go to candidate d at all: a row of the same relation, the first of its like, with the row's constants in their places and one entry for each of its variables.
+// Whether row r can go to candidate d at all: a row of the same relation, the first of its like, with the row's constants in their places and one entry for
+// each of its variables.
 fn possible(
     source: &[u32],
     target: &[u32],
@@ -129,8 +131,8 @@ pub fn domains(
     ensures { IsDomain source.now target.now named offered size count result }
 {
     let mut all = [0u32; 13];
-    for r in 0..size + 1 {
-        all[r] = domain(source, target, named, offered, size, count, r);
+    for (r, mask) in all[..size + 1].iter_mut().enumerate() {
+        *mask = domain(source, target, named, offered, size, count, r);
     }
     all
 }
@@ -171,6 +173,7 @@ fn put_pair(
         IsPair source.now target.now size count table.new r q }
 {
     let sharing = shares(source, row_at(size, r), row_at(size, q));
+    // Kept as it is: a mask's place is made of three numbers, and so is the mask.
     for d in 0..candidates(size, count, r) {
         table[(r * 24 + d) * 13 + q] = mask(source, target, size, count, sharing, r, d, q);
     }
@@ -182,6 +185,7 @@ fn put_row(table: &mut [u32], source: &[u32], target: &[u32], size: usize, count
     ensures { Keeps source.now target.now size count table.old table.new ×
         ((q : ℕ) → q ≤ size → IsPair source.now target.now size count table.new r q) }
 {
+    // Kept as it is: q is a row's number and indexes nothing here.
     for q in 0..size + 1 {
         put_pair(table, source, target, size, count, r, q);
     }
@@ -193,6 +197,7 @@ pub fn table(source: &[u32], target: &[u32], size: usize, count: usize) -> [u32;
     ensures { IsTable source.now target.now size count result }
 {
     let mut all = [0u32; 4056];
+    // Kept as it is: r is a row's number and indexes nothing here.
     for r in 0..size + 1 {
         put_row(&mut all, source, target, size, count, r);
     }

@@ -14,6 +14,7 @@ use refusals::Refusal;
 use tableaux::from_query;
 
 // A verdict as a number: not contained.
+// Kept as it is: the C interface leaves these numbers.
 pub const NOT_CONTAINED: u8 = 0;
 // Contained by a mapping.
 pub const CONTAINED_BY_MAPPING: u8 = 1;

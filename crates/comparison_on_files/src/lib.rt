@@ -55,8 +55,8 @@ fn store_apart(
 ) -> Result<(), Refusal>
     requires { good_tableau (widths_in schema) chased ≡ true }
     ensures { ComparisonGiven (verdict_fits (length mapping.old) (length part.old)
-        (0, (query_for 24 (widths_in schema)).put (as_query chased))) (replicate 96 no_cell) verdict.old mapping.old part.old size.old (returned (reply_of result)) verdict.new mapping.new part.new
-        size.new }
+        (0, (query_for 24 (widths_in schema)).put (as_query chased))) (replicate 96 no_cell) verdict.old mapping.old part.old size.old
+        (returned (reply_of result)) verdict.new mapping.new part.new size.new }
 {
     if mapping.len() < 192 {
         return Err(Refusal::BufferTooShort);

@@ -36,6 +36,7 @@ fn links_of(domain: &[u32; 13], table: &[u32; 4056], rows: usize, r: usize) -> u
     requires { (rows ≤ 13) × (r < rows) }
 {
     let mut mask: u16 = 0;
+    // Kept as it is: q is a row's number and indexes nothing here; a chain would be a `filter` and a `fold` with the same test and the same bit.
     for q in 0..rows {
         if q != r && restricts(domain, table, r, q) {
             mask |= 1 << q;
@@ -72,6 +73,7 @@ fn narrowed(table: &[u32; 4056], rows: usize, state: State, r: usize, d: usize) 
     next.chosen[r] = d as u8;
     next.placed = state.placed | (1 << r);
     next.changed = 0;
+    // Kept as it is: the index serves the table and two arrays of the state, and is a bit of a third.
     for q in 0..rows {
         let old = state.current[q];
         let left = old & table[(r * 24 + d) * 13 + q];
@@ -126,6 +128,7 @@ fn spread(links: &[u16; 13], table: &[u32; 4056], rows: usize, state: State, p: 
     let near = links[p];
     let mut next = state;
     next.changed = state.changed & !(1 << p);
+    // Kept as it is: q is a row's number, a bit of the mask, and indexes nothing here.
     for q in 0..rows {
         if (near >> q) % 2 == 1 {
             next = revised(table, rows, next, p, q);

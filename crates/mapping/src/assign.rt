@@ -8,15 +8,16 @@ use query::{Cell, Entry};
 // The images with those of the variables of one row, whose codes start at `row`, from the cells that start at `image`.
 pub fn assign_row(
     images: [Cell; 96],
-    source: [u32; 104],
-    target: [Cell; 200],
+    source: &[u32; 104],
+    target: &[Cell; 200],
     row: usize,
     image: usize,
 ) -> [Cell; 96]
-    requires { (row + 8 ≤ 104) × (image + 8 ≤ 200) × ((k : ℕ) → k < 104 → get_or source k 0 < 2147483744) }
-    ensures { RowAssigned images source target row image 8 result }
+    requires { (row + 8 ≤ 104) × (image + 8 ≤ 200) × ((k : ℕ) → k < 104 → get_or source.now k 0 < 2147483744) }
+    ensures { RowAssigned images source.now target.now row image 8 result }
 {
     let mut out = images;
+    // Kept as it is: the index serves two arrays that start at different places.
     for i in 0..8 {
         let own = Entry::from(source[row + i]);
         match own {
@@ -30,20 +31,19 @@ pub fn assign_row(
 }
 
 // The images that a choice of a candidate for each row gives.
-pub fn assign(source: [u32; 104], target: [Cell; 200], size: usize, chosen: [u8; 13]) -> [Cell; 96]
-    requires { (size ≤ 12) × ((r : ℕ) → r ≤ size → get_or chosen r 0 < 24) × ((k : ℕ) → k < 104 → get_or source k 0 < 2147483744) }
-    ensures { Assigned source target size (choice_of chosen) (size + 1) result }
+pub fn assign(
+    source: &[u32; 104],
+    target: &[Cell; 200],
+    size: usize,
+    chosen: [u8; 13],
+) -> [Cell; 96]
+    requires { (size ≤ 12) × ((r : ℕ) → r ≤ size → get_or chosen r 0 < 24) × ((k : ℕ) → k < 104 → get_or source.now k 0 < 2147483744) }
+    ensures { Assigned source.now target.now size (choice_of chosen) (size + 1) result }
 {
     let mut images = [query::NO_CELL; 96];
-    for r in 0..size + 1 {
-        let d = chosen[r] as usize;
-        let next = assign_row(
-            images,
-            source,
-            target,
-            row_at(size, r),
-            image_at(size, r, d),
-        );
+    for (r, &d) in chosen[..size + 1].iter().enumerate() {
+        let image = image_at(size, r, usize::from(d));
+        let next = assign_row(images, source, target, row_at(size, r), image);
         images = next;
     }
     images

@@ -30,7 +30,7 @@ pub fn find(source: Query, target: Tableau) -> Option<[Cell; 96]>
     let domain = domains(&from, &to, source.relations, target.relations, size, count);
     let pairs = table(&from, &to, size, count);
     let chosen = search::solve(&domain, &pairs, size + 1)?;
-    Some(assign(from, cells, size, chosen))
+    Some(assign(&from, &cells, size, chosen))
 }
 
 // Whether the images are a mapping from one query to another, as they stand. There is none from or to a query without rows.

@@ -31,6 +31,7 @@ fn next_row(links: &[u16; 13], rows: usize, state: State) -> Option<usize>
     ensures { IsNext rows state.placed result }
 {
     let mut best: Option<Best> = None;
+    // Kept as it is: the index serves the candidates and the links, and is a bit of the mask; a chain would zip both, filter by the bit and keep the number.
     for q in 0..rows {
         if (state.placed >> q) % 2 == 0 {
             let rank = rank(state.current[q], links[q] & !state.placed);
@@ -66,6 +67,7 @@ fn test_row(
     if (domain[r] >> d) % 2 == 0 {
         return Err(1 << r);
     }
+    // Kept as it is: the index serves the table and the choices.
     for q in 0..rows {
         if (table[(r * 24 + d) * 13 + q] >> chosen[q]) % 2 == 0 {
             return Err((1 << r) | (1 << q));
@@ -84,6 +86,7 @@ fn test_choices(
     requires { (rows ≤ 13) × Below chosen }
     ensures { TestSays rows domain.now table.now chosen (Solution rows domain.now table.now (λ q. get_or chosen q 0)) result }
 {
+    // Kept as it is: r is a row's number and indexes nothing here, and `?` leaves the function.
     for r in 0..rows {
         test_row(domain, table, rows, chosen, r)?;
     }
@@ -97,6 +100,7 @@ fn test_choices(
 // The work left falls with each call, and a row takes at most 26 of it. Calls go at most 326 deep: for each of 13 rows one that
 // places it and 24 that try a candidate, and the last. Compiled, placing takes 0.41 KB and trying 0.64 KB, so 205 KB of stack
 // at the deepest, and 106 KB where there are at most 12 candidates.
+// Kept as it is: domain, table, links and rows stay parameters: of a struct of references a contract would say `given.entry.rows` for `rows`.
 #[cycle(place_row_try_candidate)]
 fn place_row(
     domain: &[u32; 13],

@@ -2,28 +2,33 @@
 -- Assumes nothing.
 use borrow.Author.Rules.{rules}
 use borrow.Author.Count.{below_none}
-use Prim.Native.Nat.{◌<◌}
-use lib.ListN.{length}
+use mathlib.Core.Path.{sym, subst, ◌∙◌}
+use Prim.Native.Nat.{ℕ, ◌≤◌, ◌<◌}
+use native.Mathlib.Omega.{arith}
+use lib.ListN.{length, length-set, get_or-append}
 use Rattle.candidates.specs.internal.Candidates.{Marks, candidates_of, Possible}
 use Rattle.lists.proofs.Positions.{stored_more}
 use Rattle.candidates.proofs.table.domains.Goals as goal
 
 pub loop-r-init : goal.loop-r-init
-loop-r-init c = (search rules, search rules, below_none _)
+loop-r-init c = let few : c.args.size ≤ 12 = c.requires.few-rows in (search rules, below_none _)
 
 pub loop-r-preserved : goal.loop-r-preserved
 loop-r-preserved c =
-    let args = c.args in
-    let all = c.loop-r.all in
-    let r = c.loop-r.r in
-    let long : r < length all = search rules in (
-      search rules,
-      search rules,
+    let a = c.args in
+    let l = c.loop-r in
+    let inside : l.r < length l.mask-items = search rules in (
+      length-set l.mask-items l.r _ ∙ l.invariant.0,
       stored_more
-          (λ j m. Marks (candidates_of args.size args.count j) m
-          (Possible args.source.now args.target.now args.named args.offered args.size j)) all r
-          c.domain.result 0 long c.loop-r.invariant.2 c.domain.ensures,
+          (λ j m. Marks (candidates_of a.size a.count j) m (Possible a.source.now a.target.now a.named a.offered a.size j)) l.mask-items l.r
+          c.domain.result 0 inside l.invariant.1 c.domain.ensures,
     )
 
 pub returns : goal.returns
-returns c r h = c.loop-r.invariant.2 r (search rules)
+returns c r h =
+    let a = c.args in
+    let l = c.loop-r in
+    let passed : r < l.r = search rules in
+    let within : r < length l.mask-items = omega (arith, l.invariant.0) in
+    subst (λ (m : ℕ). Marks (candidates_of a.size a.count r) m (Possible a.source.now a.target.now a.named a.offered a.size r))
+    (sym (get_or-append l.mask-items _ 0 r within)) (l.invariant.1 r passed)

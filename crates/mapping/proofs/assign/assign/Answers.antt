@@ -1,36 +1,49 @@
 -- `assign` gives the variables of all rows their images. The invariant: those of the rows passed have them.
 -- Assumes nothing.
 use borrow.Author.Rules.{rules}
-use mathlib.Core.Path.{◌≡◌, subst}
-use Prim.Native.Nat.{ℕ, ◌+◌}
+use mathlib.Core.Path.{◌≡◌, ap, subst, ◌∙◌}
+use Prim.Native.Nat.{ℕ, ◌+◌, ◌≤◌, ◌<◌}
+use native.Mathlib.Omega.{arith}
+use lib.ListN.{length, length-take}
+use lib.Seq.{get_or-take}
+use Rattle.candidates.specs.internal.Candidates.{image_start}
 use Rattle.mapping.specs.internal.Lines.{choice_of}
 use Rattle.mapping.specs.internal.Lines.{Assigned}
 use Rattle.mapping.proofs.Images.{rows_start, rows_more}
 use Rattle.mapping.proofs.assign.assign.Goals as goal
+use Rattle.mapping.proofs.assign.assign.Goals.{After-from}
 
 pub loop-r-init : goal.loop-r-init
-loop-r-init c = (search rules, rows_start c.args.source c.args.target c.args.size (choice_of c.args.chosen))
+loop-r-init c = rows_start c.args.source.now c.args.target.now c.args.size (choice_of c.args.chosen)
 
-pub image_at-requires : goal.image_at-requires
-image_at-requires c = c.requires.1 c.loop-r.r (search rules)
+-- The number that is gone through is the row's choice
+inside : (c : After-from) → c.loop-r.r < c.args.size + 1
+inside c = omega (arith, length-take (c.args.size + 1) c.args.chosen, c.loop-r-test.true)
+
+chosen-is : (c : After-from) → c.from.result ≡ choice_of c.args.chosen c.loop-r.r
+chosen-is c = c.from.ensures ∙ get_or-take (c.args.size + 1) c.args.chosen c.loop-r.r 0 (inside c)
+
+pub image_at-image-requires : goal.image_at-image-requires
+image_at-image-requires c =
+    let at = (goal.at.image_at-image-requires c).After-from in
+    let low : c.loop-r.r < c.args.size + 1 = inside at in
+    rw (chosen-is at) (c.requires.1 c.loop-r.r (omega arith))
 
 pub assign_row-next-requires : goal.assign_row-next-requires
-assign_row-next-requires c = (search rules, search rules, c.requires.2)
+assign_row-next-requires c = (c.row_at.ensures.1, c.image_at-image.ensures.1, c.requires.2)
 
 pub loop-r-preserved : goal.loop-r-preserved
 loop-r-preserved c =
-    let at4 = c in
-    let at5 = at4 in
-    let args = at5.args in (
-      search rules,
-      rows_more args.source args.target args.size (choice_of args.chosen) at4.loop-r.r c.row_at.result
-          c.image_at.result
-          at4.loop-r.images c.assign_row-next.result c.row_at.ensures.0 c.image_at.ensures.0 at4.loop-r.invariant.1
-          c.assign_row-next.ensures,
-    )
+    let a = c.args in
+    let at = (goal.at.loop-r-preserved c).After-from in
+    rows_more a.source.now a.target.now a.size (choice_of a.chosen) c.loop-r.r c.row_at.result c.image_at-image.result c.loop-r.images
+    c.assign_row-next.result c.row_at.ensures.0 (c.image_at-image.ensures.0 ∙ ap (image_start a.size c.loop-r.r) (chosen-is at)) c.loop-r.invariant
+    c.assign_row-next.ensures
 
 pub returns : goal.returns
 returns c =
-    let args = c.args in
-    let done : c.loop-r.r ≡ args.size + 1 = search rules in
-    subst (λ (n : ℕ). Assigned args.source args.target args.size (choice_of args.chosen) n c.loop-r.images) done c.loop-r.invariant.1
+    let a = c.args in
+    let few : a.size ≤ 12 = c.requires.0 in
+    let long : length a.chosen ≡ 13 = search rules in
+    let done : c.loop-r.r ≡ a.size + 1 = omega (arith, length-take (a.size + 1) a.chosen, c.loop-r-test.false, c.loop-r.auto.r-end) in
+    subst (λ (n : ℕ). Assigned a.source.now a.target.now a.size (choice_of a.chosen) n c.loop-r.images) done c.loop-r.invariant

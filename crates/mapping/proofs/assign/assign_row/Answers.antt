@@ -11,7 +11,7 @@ use Rattle.mapping.proofs.assign.assign_row.Goals as goal
 use Rattle.mapping.proofs.assign.assign_row.Goals.{in-Constant, in-Variable}
 
 pub loop-i-init : goal.loop-i-init
-loop-i-init c = (search rules, search rules, row-start c.args.images c.args.source c.args.target c.args.row c.args.image)
+loop-i-init c = (search rules, search rules, row-start c.args.images c.args.source.now c.args.target.now c.args.row c.args.image)
 
 pub offset_bounds-out-v : goal.offset_bounds-out-v
 offset_bounds-out-v c =
@@ -35,7 +35,7 @@ loop-i-preserved c =
     let l = c.loop-i in
     let i = l.i in
     let place : args.row + i < 104 = search rules in
-    let Next = RowAssigned args.images args.source args.target args.row args.image (i + 1) in (
+    let Next = RowAssigned args.images args.source.now args.target.now args.row args.image (i + 1) in (
       search rules,
       elim c.match-own.branch [
         | in-Constant w ↦ ap length w.out-is ∙ l.invariant.1
@@ -44,12 +44,12 @@ loop-i-preserved c =
       elim c.match-own.branch [
         | in-Constant w ↦
             subst Next (sym w.out-is)
-            (row-skip args.images args.source args.target args.row args.image i l.out l.invariant.2
+            (row-skip args.images args.source.now args.target.now args.row args.image i l.out l.invariant.2
             (code-constant _ _ (sym c.from-own.ensures ∙ w.in-Constant.is)))
         | in-Variable w ↦
             let small = variable-small _ _ (s.requires.2 (args.row + i) place) (sym c.from-own.ensures ∙ w.in-Variable.is) in
             subst Next (sym w.out-is)
-            (row-store args.images args.source args.target args.row args.image i l.out l.invariant.2 w.in-Variable.v small.0 l.invariant.1
+            (row-store args.images args.source.now args.target.now args.row args.image i l.out l.invariant.2 w.in-Variable.v small.0 l.invariant.1
             small.1)
       ],
     )
@@ -58,4 +58,4 @@ pub returns : goal.returns
 returns c =
     let args = c.args in
     let done : c.loop-i.i ≡ 8 = search rules in
-    subst (λ (n : ℕ). RowAssigned args.images args.source args.target args.row args.image n c.loop-i.out) done c.loop-i.invariant.2
+    subst (λ (n : ℕ). RowAssigned args.images args.source.now args.target.now args.row args.image n c.loop-i.out) done c.loop-i.invariant.2
