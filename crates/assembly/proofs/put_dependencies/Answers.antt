@@ -30,32 +30,10 @@ loop-i-init c =
     begins (set c.args.buffer.now c.args.at c.args.held) c.args.at c.args.held c.args.list (omega (arith, c.requires.held_bound))
     (rw length-set c.requires.held_in_bounds)
 
-pub overflow_add-at : goal.overflow_add-at
-overflow_add-at c =
-    let r = room (set c.args.buffer.now c.args.at c.args.held) c.args.at (take c.args.held c.args.list) c.loop-i.buffer c.loop-i.i c.loop-i-test.true c.loop-i.invariant in
-    omega (arith, r)
-
-pub overflow_mul-i : goal.overflow_mul-i
-overflow_mul-i c =
-    let r = room (set c.args.buffer.now c.args.at c.args.held) c.args.at (take c.args.held c.args.list) c.loop-i.buffer c.loop-i.i c.loop-i-test.true c.loop-i.invariant in
-    omega (arith, r, length-take c.args.held c.args.list, c.requires.held_bound, c.requires.held_in_bounds)
-
-pub overflow_add-at-in-loop-i : goal.overflow_add-at-in-loop-i
-overflow_add-at-in-loop-i c =
-    let r = room (set c.args.buffer.now c.args.at c.args.held) c.args.at (take c.args.held c.args.list) c.loop-i.buffer c.loop-i.i c.loop-i-test.true c.loop-i.invariant in
-    omega (arith, r, length-take c.args.held c.args.list, c.requires.held_bound, c.requires.held_in_bounds)
-
-pub put_dependency-requires : goal.put_dependency-requires
-put_dependency-requires c =
-    room (set c.args.buffer.now c.args.at c.args.held) c.args.at (take c.args.held c.args.list) c.loop-i.buffer c.loop-i.i c.loop-i-test.true c.loop-i.invariant
-
 pub loop-i-preserved : goal.loop-i-preserved
 loop-i-preserved c =
     writing-turns c.loop-i.invariant no_dependency c.put_dependency.new.buffer (c.args.at + 1 + 3 * (c.loop-i.i + 1)) c.loop-i-test.true
     c.put_dependency.ensures (omega arith)
-
-pub shape_of-buffer : goal.shape_of-buffer
-shape_of-buffer c = c.loop-i.invariant.long ∙ length-set c.args.buffer.now c.args.at c.args.held
 
 pub returns : goal.returns
 returns c =

@@ -102,11 +102,6 @@ past n k places l h = omega (arith, length-take n places)
 same : (n k : ℕ) (places : List Place) → k < length (take n places) → get_or (take n places) k past_place ≡ get_or places k past_place
 same n k places h = get_or-take n places k past_place (low n k places h)
 
-pub loop-k-init : goal.loop-k-init
-loop-k-init c =
-    begins (widths_in c.args.schema) c.args.buffer.now c.args.at c.args.start
-    c.args.n c.args.places c.requires.n_bound.1
-
 pub place_length-size-requires : goal.place_length-size-requires
 place_length-size-requires c =
     let l : length c.args.places ≡ 8 = search rules in
@@ -116,74 +111,6 @@ place_length-size-requires c =
           (every-get_or (good_place (widths_in c.args.schema)) c.args.places c.loop-k.k past_place
           c.requires.places_value (omega (arith, c.requires.n_bound.0, low c.args.n c.loop-k.k c.args.places c.loop-k-test.true)));
     }
-
-pub overflow_mul-k : goal.overflow_mul-k
-overflow_mul-k c =
-    let l : length c.args.places ≡ 8 = search rules in
-    omega (
-      arith,
-      room-first (widths_in c.args.schema) c.args.buffer.now c.args.at c.args.start
-          c.args.n c.args.places c.loop-k.buffer c.loop-k.due c.loop-k.k (omega (arith, c.requires.n_bound.0))
-          c.requires.n_in_bounds c.loop-k.invariant (low c.args.n c.loop-k.k c.args.places c.loop-k-test.true),
-    )
-
-pub overflow_add-at : goal.overflow_add-at
-overflow_add-at c =
-    let l : length c.args.places ≡ 8 = search rules in
-    omega (
-      arith,
-      room-first (widths_in c.args.schema) c.args.buffer.now c.args.at c.args.start
-          c.args.n c.args.places c.loop-k.buffer c.loop-k.due c.loop-k.k (omega (arith, c.requires.n_bound.0))
-          c.requires.n_in_bounds c.loop-k.invariant (low c.args.n c.loop-k.k c.args.places c.loop-k-test.true),
-    )
-
-pub put_word-requires : goal.put_word-requires
-put_word-requires c =
-    let l : length c.args.places ≡ 8 = search rules in
-    room-first (widths_in c.args.schema) c.args.buffer.now c.args.at c.args.start c.args.n
-    c.args.places c.loop-k.buffer c.loop-k.due c.loop-k.k (omega (arith, c.requires.n_bound.0)) c.requires.n_in_bounds
-    c.loop-k.invariant (low c.args.n c.loop-k.k c.args.places c.loop-k-test.true)
-
-pub overflow_mul-k-in-loop-k : goal.overflow_mul-k-in-loop-k
-overflow_mul-k-in-loop-k c =
-    let l : length c.args.places ≡ 8 = search rules in
-    omega (
-      arith,
-      room-first (widths_in c.args.schema) c.args.buffer.now c.args.at c.args.start
-          c.args.n c.args.places c.loop-k.buffer c.loop-k.due c.loop-k.k (omega (arith, c.requires.n_bound.0))
-          c.requires.n_in_bounds c.loop-k.invariant (low c.args.n c.loop-k.k c.args.places c.loop-k-test.true),
-    )
-
-pub overflow_add-at-in-loop-k : goal.overflow_add-at-in-loop-k
-overflow_add-at-in-loop-k c =
-    let l : length c.args.places ≡ 8 = search rules in
-    omega (
-      arith,
-      room-first (widths_in c.args.schema) c.args.buffer.now c.args.at c.args.start
-          c.args.n c.args.places c.loop-k.buffer c.loop-k.due c.loop-k.k (omega (arith, c.requires.n_bound.0))
-          c.requires.n_in_bounds c.loop-k.invariant (low c.args.n c.loop-k.k c.args.places c.loop-k-test.true),
-    )
-
-pub overflow_add-at-in-loop-k-2 : goal.overflow_add-at-in-loop-k-2
-overflow_add-at-in-loop-k-2 c =
-    let l : length c.args.places ≡ 8 = search rules in
-    omega (
-      arith,
-      room-first (widths_in c.args.schema) c.args.buffer.now c.args.at c.args.start
-          c.args.n c.args.places c.loop-k.buffer c.loop-k.due c.loop-k.k (omega (arith, c.requires.n_bound.0))
-          c.requires.n_in_bounds c.loop-k.invariant (low c.args.n c.loop-k.k c.args.places c.loop-k-test.true),
-    )
-
-pub put_word-requires-in-loop-k : goal.put_word-requires-in-loop-k
-put_word-requires-in-loop-k c =
-    let l : length c.args.places ≡ 8 = search rules in
-    room-second (widths_in c.args.schema) c.args.buffer.now c.args.at c.args.start c.args.n
-    c.args.places c.loop-k.buffer c.loop-k.due c.loop-k.k (omega (arith, c.requires.n_bound.0)) c.requires.n_in_bounds
-    c.loop-k.invariant (low c.args.n c.loop-k.k c.args.places c.loop-k-test.true) c.put_word.new.buffer c.put_word.ensures
-
-pub overflow_add-due : goal.overflow_add-due
-overflow_add-due c =
-    omega (arith, c.place_length-size.ensures.1, c.loop-k.invariant.small, c.loop-k.invariant.few, c.requires.n_bound.0)
 
 pub loop-k-preserved : goal.loop-k-preserved
 loop-k-preserved c =
@@ -196,10 +123,6 @@ loop-k-preserved c =
     ∙ ap (λ (p : Place). length (put_place (widths_in c.args.schema) p)) (same c.args.n c.loop-k.k c.args.places c.loop-k-test.true))
     c.place_length-size.ensures.1
     c.put_word-in-loop-k.new.buffer c.put_word-in-loop-k.ensures
-
-pub shape_of-buffer : goal.shape_of-buffer
-shape_of-buffer c =
-    c.loop-k.invariant.long
 
 pub returns : goal.returns
 returns c =
