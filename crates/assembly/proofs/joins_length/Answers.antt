@@ -1,5 +1,5 @@
 -- `joins_length` meets its contract. Assumes nothing.
-use mathlib.Core.Path.{◌≡◌, sym, ap}
+use mathlib.Core.Path.{◌≡◌, ap}
 use Prim.Native.Nat.{◌<◌}
 use native.Mathlib.Omega.{arith}
 use lib.ListN.{length, take, get_or, length-take}
@@ -9,7 +9,7 @@ use borrow.Author.Rules.{rules}
 use Rattle.lists.proofs.Tests.{every-get_or}
 use Rattle.limits.proofs.Sets.{past_join}
 use Rattle.assembly.specs.internal.Pieces.{few_sets}
-use Rattle.assembly.proofs.Joins.{joins-none, joins-some, joins-next, joins-end}
+use Rattle.assembly.proofs.Joins.{joins-some, joins-next, joins-end}
 use Rattle.assembly.proofs.joins_length.Goals as goal
 
 pub join_length-sum-requires : goal.join_length-sum-requires

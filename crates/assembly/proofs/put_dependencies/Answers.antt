@@ -1,16 +1,16 @@
 use borrow.Author.Rules.{rules}
-use mathlib.Core.Path.{◌≡◌, refl, ◌∙◌}
+use mathlib.Core.Path.{◌≡◌, refl}
 use mathlib.Core.List.{List, flat_map}
-use Prim.Native.Nat.{ℕ, ◌+◌, ◌*◌, ◌≤◌, ◌<◌}
+use Prim.Native.Nat.{ℕ, ◌+◌, ◌*◌, ◌≤◌}
 use native.Mathlib.Nat.{add-zero}
 use native.Mathlib.Omega.{arith}
-use lib.ListN.{length, take, set, length-set, length-take}
+use lib.ListN.{length, take, set, length-set}
 use lib.Seq.{length-take-le}
 use Rattle.query.specs.declared.Dependency.{Dependency}
 use Rattle.query.specs.Rule.{no_dependency}
 use Rattle.format.proofs.Lengths.{length-flat_map}
 use Rattle.assembly.specs.internal.Pieces.{put_dependency}
-use Rattle.encoder.proofs.Stores.{Writing, writing-starts, writing-room, writing-turns, writing-ends, byte-and-run}
+use Rattle.encoder.proofs.Stores.{Writing, writing-starts, writing-turns, writing-ends, byte-and-run}
 use Rattle.assembly.proofs.put_dependencies.Goals as goal
 
 begins : (buffer : List ℕ) (at held : ℕ) (list : List Dependency) → held ≤ length list → at + 1 + 3 * held ≤ length buffer
@@ -19,10 +19,6 @@ begins buffer at held list l h =
     let e : length (flat_map put_dependency (take held list)) ≡ 3 * length (take held list) = length-flat_map put_dependency 3 (λ d. refl) (take held list) in
     let k : length (take held list) ≡ held = length-take-le held list l in
     rw (add-zero (at + 1)) (writing-starts put_dependency buffer (at + 1) (take held list) (omega arith))
-
-room : (before : List ℕ) (at : ℕ) (list : List Dependency) (buffer : List ℕ) (i : ℕ) → i < length list
-    → Writing put_dependency before (at + 1) list buffer (at + 1 + 3 * i) i → at + 1 + 3 * i + 3 ≤ length buffer
-room before at list buffer i h w = omega (arith, writing-room w no_dependency h)
 
 pub loop-i-init : goal.loop-i-init
 loop-i-init c =

@@ -5,7 +5,7 @@ use Rattle.lists.specs.Tests.{every}
 use mathlib.Core.List.{List, [], ◌∷◌, flat_map}
 use Prim.Native.Nat.{ℕ, ◌+◌, ◌≤◌, ◌<◌}
 use native.Mathlib.Omega.{arith}
-use lib.ListN.{length, take, get_or, set, length-set}
+use lib.ListN.{length, take, get_or, set}
 use lib.Seq.{length-take-le, get_or-take}
 use borrow.Author.Tests.{leb-true}
 use borrow.Author.Rules.{rules}
@@ -14,7 +14,7 @@ use Rattle.lists.specs.Over.{over}
 use Rattle.lists.proofs.Over.{over-nil}
 use Rattle.lists.proofs.Tests.{every-get_or}
 use Rattle.limits.proofs.Sets.{past_join}
-use Rattle.encoder.proofs.Stores.{writing-starts, writing-room, writing-turns, writing-ends, byte-and-run}
+use Rattle.encoder.proofs.Stores.{writing-room, writing-turns, writing-ends, byte-and-run}
 use Rattle.assembly.specs.internal.Pieces.{put_join, few_sets, joins_bytes}
 use Rattle.assembly.proofs.Joins.{joins-none, joins-some}
 use Rattle.assembly.proofs.put_joins.Goals as goal

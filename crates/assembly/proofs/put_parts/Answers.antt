@@ -2,7 +2,7 @@ use borrow.Author.Rules.{rules}
 use mathlib.Core.Bool.{true}
 use mathlib.Core.Path.{◌≡◌, refl, ap, ◌∙◌}
 use mathlib.Core.List.{List, [], ◌++◌, map, flatten}
-use Prim.Native.Nat.{ℕ, ◌+◌, ◌*◌, ◌^◌, ◌≤◌, ◌<◌}
+use Prim.Native.Nat.{ℕ, ◌+◌, ◌*◌, ◌≤◌}
 use native.Mathlib.Omega.{arith}
 use lib.ListN.{length, take}
 use Rattle.record.specs.declared.Record.{Record}
@@ -84,9 +84,6 @@ list-long c = search (mapped-length, rules)
 
 fits : (c : goal.Start) → fourth c.args.start c.args.given + length (place_bytes c.args.given c.args.n) ≤ length c.args.buffer.now
 fits c = room c.args.buffer.now c.args.start c.args.given c.args.n c.requires.given_value (widths-long c) (list-long c) c.requires.n_in_bounds
-
-short : (c : goal.Start) → length c.args.buffer.now < 2 ^ 63
-short c = search rules
 
 pub put_relations-requires : goal.put_relations-requires
 put_relations-requires c = rw c.schema-schema.ensures.relations (omega (arith, fits (goal.at.put_relations-requires c).Start))

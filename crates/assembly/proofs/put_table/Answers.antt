@@ -2,7 +2,6 @@ use borrow.Author.Rules.{rules}
 use mathlib.Core.Path.{◌≡◌, sym, ap, refl, ◌∙◌}
 use mathlib.Core.List.{List, ◌∷◌, ◌++◌, map}
 use Prim.Native.Nat.{ℕ, ◌+◌, ◌*◌, ◌-◌, ◌≤◌, ◌<◌}
-use native.Mathlib.Nat.{add-zero}
 use native.Mathlib.Omega.{arith}
 use lib.ListN.{length, take, drop, get_or, length-append, length-drop, length-map, length-take}
 use lib.Seq.{length-take-le, get_or-take}
@@ -20,17 +19,6 @@ use Rattle.limits.specs.Schema.{widths_in}
 use Rattle.assembly.proofs.FirstPlaces.{parts_next, parts-end}
 use Rattle.assembly.proofs.put_table.Invariants.{parts_from, At}
 use Rattle.assembly.proofs.put_table.Goals as goal
-
-begins : (schema before : List ℕ) (at start n : ℕ) (places : List Place) → start ≤ 1000 → At schema before at start n places before start 0
-begins schema before at start n places h =
-    record {
-      few =
-          omega arith;
-      small =
-          omega arith;
-      long = refl;
-      rest = ap (λ (m : ℕ). over before m (table_of start (map (put_place schema) (take n places)))) (sym (add-zero at));
-    }
 
 parts-left : (schema : List ℕ) (places : List Place) (n k : ℕ) → n ≤ length places → length (parts_from schema places n k) ≡ n - k
 parts-left schema places n k l =
@@ -50,9 +38,6 @@ module _ (schema before : List ℕ) (at start n : ℕ) (places : List Place) (bu
   module _ (first : List ℕ) (e₁ : first ≡ over buffer (at + 4 * k) (bytes_of 2 due)) where
     first-long : length first ≡ length buffer
     first-long = ap length e₁ ∙ over-length buffer (bytes_of 2 due) (at + 4 * k) (omega (arith, length-bytes 2 due, room-first))
-
-    room-second : at + 4 * k + 2 + 2 ≤ length first
-    room-second = omega (arith, first-long, f.long)
 
     goes_on : (size : ℕ) → size ≡ length (put_place schema (get_or places k past_place)) → size ≤ 534 → (second : List ℕ)
         → second ≡ over first (at + 4 * k + 2) (bytes_of 2 size)
