@@ -70,6 +70,8 @@ pub fn joins_length(joined: u8, list: [JoinDependency; 4]) -> usize
 
 // ---- part 0 and part 1
 
+// Kept as it is, for both kinds of dependencies: how many are held is a byte of the record and of the file; of a slice it would have to be made one again.
+
 // The relations at a position: their count, then a width byte each.
 fn put_relations(buffer: &mut [u8], at: usize, schema: Schema)
     requires { at + 1 + schema.relations ≤ length buffer.old }

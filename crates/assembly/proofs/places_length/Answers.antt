@@ -2,7 +2,6 @@ use borrow.Author.Rules.{rules}
 use mathlib.Core.Path.{◌≡◌, ap, ◌∙◌}
 use mathlib.Core.List.{List, map, flatten}
 use Prim.Native.Nat.{ℕ, ◌+◌, ◌≤◌, ◌<◌}
-use native.Mathlib.Nat.{zero-add}
 use native.Mathlib.Omega.{arith}
 use lib.ListN.{length, take, drop, get_or, length-append, length-take}
 use lib.Seq.{length-take-le, get_or-take}
@@ -43,9 +42,6 @@ module _ (schema : List ℕ) (places : List Place) (n k : ℕ) (l : n ≤ length
       ≡ length (put_place schema (get_or (take n places) k past_place)) + length (flatten (map (put_place schema) (drop (k + 1) (take n places))))
   step = rw same (next schema places n k l low)
 
-pub loop-place-init : goal.loop-place-init
-loop-place-init c = (omega arith, rw zero-add)
-
 pub place_length-sum-requires : goal.place_length-sum-requires
 place_length-sum-requires c =
     let l : length c.args.places ≡ 8 = search rules in
@@ -53,10 +49,6 @@ place_length-sum-requires c =
       place_value = good (widths_in c.args.schema) c.args.places c.args.n c.loop-place.place-index (omega (arith, c.requires.n_bound))
           c.loop-place-test.true c.requires.places_value;
     }
-
-pub overflow_add-sum : goal.overflow_add-sum
-overflow_add-sum c =
-    omega (arith, c.place_length-sum.ensures.1, c.requires.n_bound, length-take c.args.n c.args.places, c.loop-place.invariant.0)
 
 pub loop-place-preserved : goal.loop-place-preserved
 loop-place-preserved c =

@@ -1,16 +1,16 @@
 use borrow.Author.Rules.{rules}
-use mathlib.Core.Path.{◌≡◌, refl, ◌∙◌}
+use mathlib.Core.Path.{◌≡◌, refl}
 use mathlib.Core.List.{List, flat_map}
-use Prim.Native.Nat.{ℕ, ◌+◌, ◌*◌, ◌≤◌, ◌<◌}
+use Prim.Native.Nat.{ℕ, ◌+◌, ◌*◌, ◌≤◌}
 use native.Mathlib.Nat.{add-zero}
 use native.Mathlib.Omega.{arith}
-use lib.ListN.{length, take, set, length-set, length-take}
+use lib.ListN.{length, take, set, length-set}
 use lib.Seq.{length-take-le}
 use Rattle.query.specs.declared.Dependency.{Dependency}
 use Rattle.query.specs.Rule.{no_dependency}
 use Rattle.format.proofs.Lengths.{length-flat_map}
 use Rattle.assembly.specs.internal.Pieces.{put_dependency}
-use Rattle.encoder.proofs.Stores.{Writing, writing-starts, writing-room, writing-turns, writing-ends, byte-and-run}
+use Rattle.encoder.proofs.Stores.{Writing, writing-starts, writing-turns, writing-ends, byte-and-run}
 use Rattle.assembly.proofs.put_dependencies.Goals as goal
 
 begins : (buffer : List ℕ) (at held : ℕ) (list : List Dependency) → held ≤ length list → at + 1 + 3 * held ≤ length buffer
@@ -20,42 +20,16 @@ begins buffer at held list l h =
     let k : length (take held list) ≡ held = length-take-le held list l in
     rw (add-zero (at + 1)) (writing-starts put_dependency buffer (at + 1) (take held list) (omega arith))
 
-room : (before : List ℕ) (at : ℕ) (list : List Dependency) (buffer : List ℕ) (i : ℕ) → i < length list
-    → Writing put_dependency before (at + 1) list buffer (at + 1 + 3 * i) i → at + 1 + 3 * i + 3 ≤ length buffer
-room before at list buffer i h w = omega (arith, writing-room w no_dependency h)
-
 pub loop-i-init : goal.loop-i-init
 loop-i-init c =
     let l : length c.args.list ≡ 32 = search rules in
     begins (set c.args.buffer.now c.args.at c.args.held) c.args.at c.args.held c.args.list (omega (arith, c.requires.held_bound))
     (rw length-set c.requires.held_in_bounds)
 
-pub overflow_add-at : goal.overflow_add-at
-overflow_add-at c =
-    let r = room (set c.args.buffer.now c.args.at c.args.held) c.args.at (take c.args.held c.args.list) c.loop-i.buffer c.loop-i.i c.loop-i-test.true c.loop-i.invariant in
-    omega (arith, r)
-
-pub overflow_mul-i : goal.overflow_mul-i
-overflow_mul-i c =
-    let r = room (set c.args.buffer.now c.args.at c.args.held) c.args.at (take c.args.held c.args.list) c.loop-i.buffer c.loop-i.i c.loop-i-test.true c.loop-i.invariant in
-    omega (arith, r, length-take c.args.held c.args.list, c.requires.held_bound, c.requires.held_in_bounds)
-
-pub overflow_add-at-in-loop-i : goal.overflow_add-at-in-loop-i
-overflow_add-at-in-loop-i c =
-    let r = room (set c.args.buffer.now c.args.at c.args.held) c.args.at (take c.args.held c.args.list) c.loop-i.buffer c.loop-i.i c.loop-i-test.true c.loop-i.invariant in
-    omega (arith, r, length-take c.args.held c.args.list, c.requires.held_bound, c.requires.held_in_bounds)
-
-pub put_dependency-requires : goal.put_dependency-requires
-put_dependency-requires c =
-    room (set c.args.buffer.now c.args.at c.args.held) c.args.at (take c.args.held c.args.list) c.loop-i.buffer c.loop-i.i c.loop-i-test.true c.loop-i.invariant
-
 pub loop-i-preserved : goal.loop-i-preserved
 loop-i-preserved c =
     writing-turns c.loop-i.invariant no_dependency c.put_dependency.new.buffer (c.args.at + 1 + 3 * (c.loop-i.i + 1)) c.loop-i-test.true
     c.put_dependency.ensures (omega arith)
-
-pub shape_of-buffer : goal.shape_of-buffer
-shape_of-buffer c = c.loop-i.invariant.long ∙ length-set c.args.buffer.now c.args.at c.args.held
 
 pub returns : goal.returns
 returns c =

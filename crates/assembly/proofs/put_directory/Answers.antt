@@ -68,59 +68,6 @@ listed schema n places = map (put_place schema) (take n places)
 few : (schema : List ℕ) (n : ℕ) (places : List Place) → length (listed schema n places) ≤ n
 few schema n places = rw (length-map (take n places) (put_place schema)) (take_short n places)
 
-pub put_word-requires : goal.put_word-requires
-put_word-requires c = omega (arith, c.requires.n_in_bounds)
-
-pub put_word-requires-2 : goal.put_word-requires-2
-put_word-requires-2 c =
-    let a = c.args in
-    let run = run-1 a.buffer.now a.n a.first a.second [] c.requires.n_in_bounds c.put_word.new.buffer c.put_word.ensures in
-    omega (arith, run.long, c.requires.n_in_bounds)
-
-pub put_word-requires-3 : goal.put_word-requires-3
-put_word-requires-3 c =
-    let a = c.args in
-    let run =
-    run-2 a.buffer.now a.n a.first a.second [] c.requires.n_in_bounds c.put_word.new.buffer c.put_word.ensures c.put_word-2.new.buffer c.put_word-2.ensures in
-    omega (arith, run.long, c.requires.n_in_bounds)
-
-pub overflow_add-start-3 : goal.overflow_add-start-3
-overflow_add-start-3 c = omega (arith, c.requires.n_bound)
-
-pub put_word-requires-4 : goal.put_word-requires-4
-put_word-requires-4 c =
-    let a = c.args in
-    let run =
-    run-3 a.buffer.now a.n a.first a.second [] c.requires.n_in_bounds c.put_word.new.buffer c.put_word.ensures c.put_word-2.new.buffer c.put_word-2.ensures
-    c.put_word-3.new.buffer c.put_word-3.ensures in
-    omega (arith, run.long, c.requires.n_in_bounds)
-
-pub put_word-requires-5 : goal.put_word-requires-5
-put_word-requires-5 c =
-    let a = c.args in
-    let run =
-    run-4 a.buffer.now a.n a.first a.second [] c.requires.n_in_bounds c.put_word.new.buffer c.put_word.ensures c.put_word-2.new.buffer c.put_word-2.ensures
-    c.put_word-3.new.buffer c.put_word-3.ensures c.put_word-4.new.buffer c.put_word-4.ensures in
-    omega (arith, run.long, c.requires.n_in_bounds)
-
-pub overflow_add-start-4 : goal.overflow_add-start-4
-overflow_add-start-4 c = omega (arith, c.requires.n_bound)
-
-pub overflow_add-start-5 : goal.overflow_add-start-5
-overflow_add-start-5 c = omega (arith, c.requires.n_bound)
-
-pub put_table-requires : goal.put_table-requires
-put_table-requires c =
-    let a = c.args in
-    let run =
-    run-5 a.buffer.now a.n a.first a.second [] c.requires.n_in_bounds c.put_word.new.buffer c.put_word.ensures c.put_word-2.new.buffer c.put_word-2.ensures
-    c.put_word-3.new.buffer c.put_word-3.ensures c.put_word-4.new.buffer c.put_word-4.ensures c.put_word-5.new.buffer c.put_word-5.ensures in
-    record {
-      places_value = c.requires.places_value;
-      n_bound = (c.requires.n_bound.0, omega (arith, c.requires.n_bound));
-      n_in_bounds = omega (arith, run.long, c.requires.n_in_bounds);
-    }
-
 -- The whole directory
 whole : (c : goal.After-put_table) → Run c.args.buffer.now 0
     (bytes-5 c.args.buffer.now c.args.n c.args.first c.args.second (listed (widths_in c.args.schema) c.args.n c.args.places) c.requires.n_in_bounds
@@ -132,9 +79,6 @@ whole c =
     last-run a.buffer.now a.n a.first a.second (listed schema a.n a.places) c.requires.n_in_bounds c.put_word.new.buffer c.put_word.ensures
     c.put_word-2.new.buffer c.put_word-2.ensures c.put_word-3.new.buffer c.put_word-3.ensures c.put_word-4.new.buffer c.put_word-4.ensures
     c.put_word-5.new.buffer c.put_word-5.ensures c.put_table.new.buffer (few schema a.n a.places) c.put_table.ensures
-
-pub shape_of-buffer : goal.shape_of-buffer
-shape_of-buffer c = (whole (goal.at.shape_of-buffer c).After-put_table).long
 
 pub returns : goal.returns
 returns c = (whole (goal.at.returns c).After-put_table).written

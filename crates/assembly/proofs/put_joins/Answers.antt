@@ -5,7 +5,7 @@ use Rattle.lists.specs.Tests.{every}
 use mathlib.Core.List.{List, [], ◌∷◌, flat_map}
 use Prim.Native.Nat.{ℕ, ◌+◌, ◌≤◌, ◌<◌}
 use native.Mathlib.Omega.{arith}
-use lib.ListN.{length, take, get_or, set, length-set}
+use lib.ListN.{length, take, get_or, set}
 use lib.Seq.{length-take-le, get_or-take}
 use borrow.Author.Tests.{leb-true}
 use borrow.Author.Rules.{rules}
@@ -14,7 +14,7 @@ use Rattle.lists.specs.Over.{over}
 use Rattle.lists.proofs.Over.{over-nil}
 use Rattle.lists.proofs.Tests.{every-get_or}
 use Rattle.limits.proofs.Sets.{past_join}
-use Rattle.encoder.proofs.Stores.{writing-starts, writing-room, writing-turns, writing-ends, byte-and-run}
+use Rattle.encoder.proofs.Stores.{writing-room, writing-turns, writing-ends, byte-and-run}
 use Rattle.assembly.specs.internal.Pieces.{put_join, few_sets, joins_bytes}
 use Rattle.assembly.proofs.Joins.{joins-none, joins-some}
 use Rattle.assembly.proofs.put_joins.Goals as goal
@@ -53,22 +53,6 @@ whole c =
     let all = ap length (joins-some c.args.joined c.args.list c.if-joined-eq0.false) in
     omega (arith, all, c.requires.list_in_bounds)
 
-pub returns-then-joined-eq0 : goal.returns-then-joined-eq0
-returns-then-joined-eq0 c =
-    nothing c.args.buffer.now c.args.at c.args.joined c.args.list c.if-joined-eq0.true
-
-pub bounds-buffer-at : goal.bounds-buffer-at
-bounds-buffer-at c = omega (arith, whole (goal.at.bounds-buffer-at c).Else-joined-eq0)
-
-pub overflow_add-next : goal.overflow_add-next
-overflow_add-next c = let room = whole (goal.at.overflow_add-next c).Else-joined-eq0 in search rules
-
-pub loop-j-init : goal.loop-j-init
-loop-j-init c =
-    let a = c.args in
-    writing-starts put_join (set a.buffer.now a.at a.joined) (a.at + 1) (take a.joined a.list)
-    (rw (length-set a.buffer.now a.at a.joined) (whole (goal.at.loop-j-init c).Else-joined-eq0))
-
 pub put_join-next-requires : goal.put_join-next-requires
 put_join-next-requires c =
     let four : length c.args.list ≡ 4 = search rules in
@@ -81,11 +65,6 @@ pub loop-j-preserved : goal.loop-j-preserved
 loop-j-preserved c =
     writing-turns c.loop-j.invariant past_join c.put_join-next.new.buffer c.put_join-next.result c.loop-j-test.true c.put_join-next.ensures.0
     c.put_join-next.ensures.1
-
-pub shape_of-buffer : goal.shape_of-buffer
-shape_of-buffer c =
-    let a = c.args in
-    c.loop-j.invariant.long ∙ length-set a.buffer.now a.at a.joined
 
 pub returns : goal.returns
 returns c =

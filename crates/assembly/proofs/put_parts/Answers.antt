@@ -2,7 +2,7 @@ use borrow.Author.Rules.{rules}
 use mathlib.Core.Bool.{true}
 use mathlib.Core.Path.{◌≡◌, refl, ap, ◌∙◌}
 use mathlib.Core.List.{List, [], ◌++◌, map, flatten}
-use Prim.Native.Nat.{ℕ, ◌+◌, ◌*◌, ◌^◌, ◌≤◌, ◌<◌}
+use Prim.Native.Nat.{ℕ, ◌+◌, ◌*◌, ◌≤◌}
 use native.Mathlib.Omega.{arith}
 use lib.ListN.{length, take}
 use Rattle.record.specs.declared.Record.{Record}
@@ -85,25 +85,6 @@ list-long c = search (mapped-length, rules)
 fits : (c : goal.Start) → fourth c.args.start c.args.given + length (place_bytes c.args.given c.args.n) ≤ length c.args.buffer.now
 fits c = room c.args.buffer.now c.args.start c.args.given c.args.n c.requires.given_value (widths-long c) (list-long c) c.requires.n_in_bounds
 
-short : (c : goal.Start) → length c.args.buffer.now < 2 ^ 63
-short c = search rules
-
--- ---- the needs
-pub overflow_add-first : goal.overflow_add-first
-overflow_add-first c = omega (arith, fits (goal.at.overflow_add-first c).Start, short (goal.at.overflow_add-first c).Start)
-
-pub overflow_add-first-2 : goal.overflow_add-first-2
-overflow_add-first-2 c = omega (arith, fits (goal.at.overflow_add-first-2 c).Start, short (goal.at.overflow_add-first-2 c).Start)
-
-pub overflow_add-second : goal.overflow_add-second
-overflow_add-second c = omega (arith, fits (goal.at.overflow_add-second c).Start, short (goal.at.overflow_add-second c).Start)
-
-pub overflow_mul-second : goal.overflow_mul-second
-overflow_mul-second c = omega (arith, fits (goal.at.overflow_mul-second c).Start, short (goal.at.overflow_mul-second c).Start)
-
-pub overflow_add-second-2 : goal.overflow_add-second-2
-overflow_add-second-2 c = omega (arith, fits (goal.at.overflow_add-second-2 c).Start, short (goal.at.overflow_add-second-2 c).Start)
-
 pub put_relations-requires : goal.put_relations-requires
 put_relations-requires c = rw c.schema-schema.ensures.relations (omega (arith, fits (goal.at.put_relations-requires c).Start))
 
@@ -156,9 +137,6 @@ whole c =
     fourth-run a.buffer.now a.start a.given a.n c.requires.given_value lw ld c.requires.n_in_bounds c.put_relations.new.buffer (rw (c.schema-schema.ensures.relations, c.schema-schema.ensures.widths) at c.put_relations.ensures)
     c.put_dependencies.new.buffer c.put_dependencies.ensures c.put_joins-third.new.buffer c.put_joins-third.ensures.0 c.put_places.new.buffer
     c.put_joins-third.result c.put_joins-third.ensures.1 (rw c.schema-schema.ensures.value at c.put_places.ensures)
-
-pub shape_of-buffer : goal.shape_of-buffer
-shape_of-buffer c = (whole (goal.at.shape_of-buffer c).After-put_places).long
 
 pub returns : goal.returns
 returns c = (whole (goal.at.returns c).After-put_places).written

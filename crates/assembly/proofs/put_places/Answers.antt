@@ -51,9 +51,6 @@ loop-place-preserved c =
     writing-turns c.loop-place.invariant past_place c.put_place-at.new.buffer c.put_place-at.result c.loop-place-test.true c.put_place-at.ensures.0
     c.put_place-at.ensures.1
 
-pub shape_of-buffer : goal.shape_of-buffer
-shape_of-buffer c = c.loop-place.invariant.long
-
 pub returns : goal.returns
 returns c =
     (writing-ends c.loop-place.invariant c.loop-place-test.false).0

@@ -2,7 +2,6 @@ use borrow.Author.Rules.{rules}
 use mathlib.Core.Path.{◌≡◌, sym, ap, refl, ◌∙◌}
 use mathlib.Core.List.{List, ◌∷◌, ◌++◌, map}
 use Prim.Native.Nat.{ℕ, ◌+◌, ◌*◌, ◌-◌, ◌≤◌, ◌<◌}
-use native.Mathlib.Nat.{add-zero}
 use native.Mathlib.Omega.{arith}
 use lib.ListN.{length, take, drop, get_or, length-append, length-drop, length-map, length-take}
 use lib.Seq.{length-take-le, get_or-take}
@@ -20,17 +19,6 @@ use Rattle.limits.specs.Schema.{widths_in}
 use Rattle.assembly.proofs.FirstPlaces.{parts_next, parts-end}
 use Rattle.assembly.proofs.put_table.Invariants.{parts_from, At}
 use Rattle.assembly.proofs.put_table.Goals as goal
-
-begins : (schema before : List ℕ) (at start n : ℕ) (places : List Place) → start ≤ 1000 → At schema before at start n places before start 0
-begins schema before at start n places h =
-    record {
-      few =
-          omega arith;
-      small =
-          omega arith;
-      long = refl;
-      rest = ap (λ (m : ℕ). over before m (table_of start (map (put_place schema) (take n places)))) (sym (add-zero at));
-    }
 
 parts-left : (schema : List ℕ) (places : List Place) (n k : ℕ) → n ≤ length places → length (parts_from schema places n k) ≡ n - k
 parts-left schema places n k l =
@@ -50,9 +38,6 @@ module _ (schema before : List ℕ) (at start n : ℕ) (places : List Place) (bu
   module _ (first : List ℕ) (e₁ : first ≡ over buffer (at + 4 * k) (bytes_of 2 due)) where
     first-long : length first ≡ length buffer
     first-long = ap length e₁ ∙ over-length buffer (bytes_of 2 due) (at + 4 * k) (omega (arith, length-bytes 2 due, room-first))
-
-    room-second : at + 4 * k + 2 + 2 ≤ length first
-    room-second = omega (arith, first-long, f.long)
 
     goes_on : (size : ℕ) → size ≡ length (put_place schema (get_or places k past_place)) → size ≤ 534 → (second : List ℕ)
         → second ≡ over first (at + 4 * k + 2) (bytes_of 2 size)
@@ -102,11 +87,6 @@ past n k places l h = omega (arith, length-take n places)
 same : (n k : ℕ) (places : List Place) → k < length (take n places) → get_or (take n places) k past_place ≡ get_or places k past_place
 same n k places h = get_or-take n places k past_place (low n k places h)
 
-pub loop-k-init : goal.loop-k-init
-loop-k-init c =
-    begins (widths_in c.args.schema) c.args.buffer.now c.args.at c.args.start
-    c.args.n c.args.places c.requires.n_bound.1
-
 pub place_length-size-requires : goal.place_length-size-requires
 place_length-size-requires c =
     let l : length c.args.places ≡ 8 = search rules in
@@ -116,74 +96,6 @@ place_length-size-requires c =
           (every-get_or (good_place (widths_in c.args.schema)) c.args.places c.loop-k.k past_place
           c.requires.places_value (omega (arith, c.requires.n_bound.0, low c.args.n c.loop-k.k c.args.places c.loop-k-test.true)));
     }
-
-pub overflow_mul-k : goal.overflow_mul-k
-overflow_mul-k c =
-    let l : length c.args.places ≡ 8 = search rules in
-    omega (
-      arith,
-      room-first (widths_in c.args.schema) c.args.buffer.now c.args.at c.args.start
-          c.args.n c.args.places c.loop-k.buffer c.loop-k.due c.loop-k.k (omega (arith, c.requires.n_bound.0))
-          c.requires.n_in_bounds c.loop-k.invariant (low c.args.n c.loop-k.k c.args.places c.loop-k-test.true),
-    )
-
-pub overflow_add-at : goal.overflow_add-at
-overflow_add-at c =
-    let l : length c.args.places ≡ 8 = search rules in
-    omega (
-      arith,
-      room-first (widths_in c.args.schema) c.args.buffer.now c.args.at c.args.start
-          c.args.n c.args.places c.loop-k.buffer c.loop-k.due c.loop-k.k (omega (arith, c.requires.n_bound.0))
-          c.requires.n_in_bounds c.loop-k.invariant (low c.args.n c.loop-k.k c.args.places c.loop-k-test.true),
-    )
-
-pub put_word-requires : goal.put_word-requires
-put_word-requires c =
-    let l : length c.args.places ≡ 8 = search rules in
-    room-first (widths_in c.args.schema) c.args.buffer.now c.args.at c.args.start c.args.n
-    c.args.places c.loop-k.buffer c.loop-k.due c.loop-k.k (omega (arith, c.requires.n_bound.0)) c.requires.n_in_bounds
-    c.loop-k.invariant (low c.args.n c.loop-k.k c.args.places c.loop-k-test.true)
-
-pub overflow_mul-k-in-loop-k : goal.overflow_mul-k-in-loop-k
-overflow_mul-k-in-loop-k c =
-    let l : length c.args.places ≡ 8 = search rules in
-    omega (
-      arith,
-      room-first (widths_in c.args.schema) c.args.buffer.now c.args.at c.args.start
-          c.args.n c.args.places c.loop-k.buffer c.loop-k.due c.loop-k.k (omega (arith, c.requires.n_bound.0))
-          c.requires.n_in_bounds c.loop-k.invariant (low c.args.n c.loop-k.k c.args.places c.loop-k-test.true),
-    )
-
-pub overflow_add-at-in-loop-k : goal.overflow_add-at-in-loop-k
-overflow_add-at-in-loop-k c =
-    let l : length c.args.places ≡ 8 = search rules in
-    omega (
-      arith,
-      room-first (widths_in c.args.schema) c.args.buffer.now c.args.at c.args.start
-          c.args.n c.args.places c.loop-k.buffer c.loop-k.due c.loop-k.k (omega (arith, c.requires.n_bound.0))
-          c.requires.n_in_bounds c.loop-k.invariant (low c.args.n c.loop-k.k c.args.places c.loop-k-test.true),
-    )
-
-pub overflow_add-at-in-loop-k-2 : goal.overflow_add-at-in-loop-k-2
-overflow_add-at-in-loop-k-2 c =
-    let l : length c.args.places ≡ 8 = search rules in
-    omega (
-      arith,
-      room-first (widths_in c.args.schema) c.args.buffer.now c.args.at c.args.start
-          c.args.n c.args.places c.loop-k.buffer c.loop-k.due c.loop-k.k (omega (arith, c.requires.n_bound.0))
-          c.requires.n_in_bounds c.loop-k.invariant (low c.args.n c.loop-k.k c.args.places c.loop-k-test.true),
-    )
-
-pub put_word-requires-in-loop-k : goal.put_word-requires-in-loop-k
-put_word-requires-in-loop-k c =
-    let l : length c.args.places ≡ 8 = search rules in
-    room-second (widths_in c.args.schema) c.args.buffer.now c.args.at c.args.start c.args.n
-    c.args.places c.loop-k.buffer c.loop-k.due c.loop-k.k (omega (arith, c.requires.n_bound.0)) c.requires.n_in_bounds
-    c.loop-k.invariant (low c.args.n c.loop-k.k c.args.places c.loop-k-test.true) c.put_word.new.buffer c.put_word.ensures
-
-pub overflow_add-due : goal.overflow_add-due
-overflow_add-due c =
-    omega (arith, c.place_length-size.ensures.1, c.loop-k.invariant.small, c.loop-k.invariant.few, c.requires.n_bound.0)
 
 pub loop-k-preserved : goal.loop-k-preserved
 loop-k-preserved c =
@@ -196,10 +108,6 @@ loop-k-preserved c =
     ∙ ap (λ (p : Place). length (put_place (widths_in c.args.schema) p)) (same c.args.n c.loop-k.k c.args.places c.loop-k-test.true))
     c.place_length-size.ensures.1
     c.put_word-in-loop-k.new.buffer c.put_word-in-loop-k.ensures
-
-pub shape_of-buffer : goal.shape_of-buffer
-shape_of-buffer c =
-    c.loop-k.invariant.long
 
 pub returns : goal.returns
 returns c =

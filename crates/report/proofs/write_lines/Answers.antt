@@ -1,9 +1,8 @@
 -- `report::write_lines` meets its contract, by `Listed`. Assumes nothing.
-use mathlib.Core.Path.{◌≡◌, sym, subst}
-use Prim.Native.Nat.{ℕ, ◌<◌}
+use mathlib.Core.Path.{◌≡◌}
+use Prim.Native.Nat.{◌<◌}
 use lib.ListN.{length}
 use Rattle.lists.proofs.Loops.{mapped-length}
-use Rattle.report.proofs.OnePlace.{other-low}
 use Rattle.report.proofs.Listed.{listable, lines-written}
 use borrow.Author.Rules.{rules}
 use Rattle.report.proofs.write_lines.Goals as goal
@@ -21,10 +20,6 @@ result-long c = let long : length c.stored-result.result.relations ≡ 12 = sear
 
 count_small : (c : After-reduce-reduced) → c.reduce-reduced.result.count < 256
 count_small c = let small : c.reduce-reduced.result.count < 256 = search rules in small
-
-pub stored-result-requires : goal.stored-result-requires
-stored-result-requires c = subst (λ (n : ℕ). n < 8) (sym c.other_place-target.ensures)
-    (other-low c.args.place)
 
 pub write_place-requires : goal.write_place-requires
 write_place-requires c =

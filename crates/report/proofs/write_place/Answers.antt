@@ -3,10 +3,6 @@ use mathlib.Core.Path.{sym, ◌∙◌}
 use Rattle.report.proofs.Joined.{part_filled, part-vacant}
 use Rattle.report.proofs.write_place.Goals as goal
 
-pub write_lines-requires : goal.write_lines-requires
-write_lines-requires c =
-    (c.requires.0, c.requires.1, c.requires.2, sym c.is_filled.ensures ∙ c.if-is_filled.true)
-
 pub returns-then-is_filled : goal.returns-then-is_filled
 returns-then-is_filled c =
     part_filled c.args.given c.args.place c.args.buffer.now c.args.at c.write_lines.new.buffer

@@ -5,13 +5,10 @@ use mathlib.Core.Bool.{Bool}
 use Prim.Native.Nat.{ℕ}
 use Rattle.limits.specs.Schema.{widths_in}
 use Rattle.query.specs.View.{images_of}
-use Rattle.printing.proofs.Writing.{started, part-fits, wrote, finished, left_as, moved, same_size}
+use Rattle.printing.proofs.Writing.{part-fits, wrote, finished, left_as, moved}
 use Rattle.text.proofs.Turns.{in_row, images-passed, images-skipped, images-end}
 use Rattle.text.proofs.put_images.Goals as goal
 use Rattle.text.proofs.put_images.Goals.{then-rows_have, else-rows_have}
-
-pub loop-v-init : goal.loop-v-init
-loop-v-init c = (search rules, started c.requires.0)
 
 pub put_image-next-requires : goal.put_image-next-requires
 put_image-next-requires c =
@@ -37,9 +34,6 @@ loop-v-preserved c =
             moved (left_as l.invariant.1 (images-skipped (images_of s.images) test l.v low (asked ∙ w.if-rows_have.false))) w.buffer-is w.next-is
       ],
     )
-
-pub shape_of-buffer : goal.shape_of-buffer
-shape_of-buffer c = same_size c.loop-v.invariant.1
 
 pub returns : goal.returns
 returns c =

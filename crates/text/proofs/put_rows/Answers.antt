@@ -8,12 +8,9 @@ use Rattle.lists.proofs.Loops.{mapped-length}
 use Rattle.limits.specs.Schema.{widths_in}
 use Rattle.query.proofs.Good.{good-query}
 use Rattle.query.proofs.Relations.{width-le}
-use Rattle.printing.proofs.Writing.{started, part-fits, wrote, finished, left_as, same_size}
+use Rattle.printing.proofs.Writing.{part-fits, wrote, finished, left_as}
 use Rattle.text.proofs.Turns.{rows-turn, rows_end}
 use Rattle.text.proofs.put_rows.Goals as goal
-
-pub loop-r-init : goal.loop-r-init
-loop-r-init c = started c.requires.0
 
 pub slice_bounds-row-end : goal.slice_bounds-row-end
 slice_bounds-row-end c =
@@ -36,9 +33,6 @@ loop-r-preserved c =
     wrote c.loop-r.invariant _
     (rows-turn (widths_in c.args.schema) named q.cells c.loop-r.r c.loop-r-test.true c.width_of-width.result c.width_of-width.ensures)
     c.put_row_line-next.ensures
-
-pub shape_of-buffer : goal.shape_of-buffer
-shape_of-buffer c = same_size c.loop-r.invariant
 
 pub returns : goal.returns
 returns c =

@@ -6,9 +6,3 @@ use Rattle.writer.proofs.write.Goals as goal
 
 pub returns-then-not-is_good : goal.returns-then-not-is_good
 returns-then-not-is_good c = bad-refused _ _ (sym c.is_good.ensures ∙ c.if-not-is_good.true)
-
-pub write_good-requires : goal.write_good-requires
-write_good-requires c = sym c.is_good.ensures ∙ c.if-not-is_good.false
-
-pub returns : goal.returns
-returns c = c.write_good.ensures

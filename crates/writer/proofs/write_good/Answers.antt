@@ -97,67 +97,15 @@ whole c =
     (lengths c.args.given c.requires k.widths-long k.list-long c.up_to_filled-n.result c.up_to_filled-n.ensures.0 k.held c.joins_length.result
     c.places_length-others.result c.joins_length.ensures.0 (rw c.schema-schema.ensures.value at c.places_length-others.ensures).0).1
 
--- ---- the needs
-pub overflow_cast-first : goal.overflow_cast-first
-overflow_cast-first c = omega (arith, counts (goal.at.overflow_cast-first c).Start)
-
-pub overflow_add-first : goal.overflow_add-first
-overflow_add-first c = omega (arith, counts (goal.at.overflow_add-first c).Start)
-
-pub overflow_cast-second : goal.overflow_cast-second
-overflow_cast-second c = omega (arith, few-held (goal.at.overflow_cast-second c).Start)
-
-pub overflow_mul-second : goal.overflow_mul-second
-overflow_mul-second c = omega (arith, few-held (goal.at.overflow_mul-second c).Start)
-
-pub overflow_add-second : goal.overflow_add-second
-overflow_add-second c = omega (arith, few-held (goal.at.overflow_add-second c).Start)
-
 pub joins_length-requires : goal.joins_length-requires
 joins_length-requires c =
     let good = good-record c.args.given c.requires in
     (good.joined, few-sets (schema_of c.args.given) c.args.given.joined c.args.given.joins good.joins)
 
-pub overflow_add-second-2 : goal.overflow_add-second-2
-overflow_add-second-2 c = omega (arith, few-held (goal.at.overflow_add-second-2 c).Start, c.joins_length.ensures.1)
-
 pub places_length-others-requires : goal.places_length-others-requires
 places_length-others-requires c =
     let good = good-record c.args.given c.requires in
     record { places_value = rw c.schema-schema.ensures.value good.places; n_bound = c.up_to_filled-n.ensures.1 }
-
-pub overflow_add-size : goal.overflow_add-size
-overflow_add-size c = omega (arith, c.up_to_filled-n.ensures.1)
-
-pub overflow_mul-size : goal.overflow_mul-size
-overflow_mul-size c = omega (arith, c.up_to_filled-n.ensures.1)
-
-pub overflow_add-size-2 : goal.overflow_add-size-2
-overflow_add-size-2 c = omega (arith, c.up_to_filled-n.ensures.1)
-
-pub overflow_add-size-3 : goal.overflow_add-size-3
-overflow_add-size-3 c = omega (arith, c.up_to_filled-n.ensures.1, counts (goal.at.overflow_add-size-3 c).Start)
-
-pub overflow_add-size-4 : goal.overflow_add-size-4
-overflow_add-size-4 c =
-    omega (
-      arith,
-      c.up_to_filled-n.ensures.1,
-      counts (goal.at.overflow_add-size-4 c).Start,
-      few-held (goal.at.overflow_add-size-4 c).Start,
-      c.joins_length.ensures.1,
-    )
-
-pub overflow_add-size-5 : goal.overflow_add-size-5
-overflow_add-size-5 c =
-    omega (
-      arith,
-      c.up_to_filled-n.ensures.1,
-      counts (goal.at.overflow_add-size-5 c).Start,
-      few-held (goal.at.overflow_add-size-5 c).Start,
-      c.joins_length.ensures.1,
-      (rw c.schema-schema.ensures.value at c.places_length-others.ensures).1,
-    )
 
 pub returns-then-buffer-size : goal.returns-then-buffer-size
 returns-then-buffer-size c =
@@ -174,15 +122,6 @@ put_directory-requires c =
           (c.up_to_filled-n.ensures.1, omega (arith, counts start'), omega (arith, few-held start', c.joins_length.ensures.1));
       n_in_bounds = omega (arith, c.if-buffer-size.false);
     }
-
-pub overflow_add-n : goal.overflow_add-n
-overflow_add-n c = omega (arith, c.up_to_filled-n.ensures.1)
-
-pub overflow_mul-n : goal.overflow_mul-n
-overflow_mul-n c = omega (arith, c.up_to_filled-n.ensures.1)
-
-pub overflow_add-n-2 : goal.overflow_add-n-2
-overflow_add-n-2 c = omega (arith, c.up_to_filled-n.ensures.1)
 
 pub put_parts-requires : goal.put_parts-requires
 put_parts-requires c =
@@ -214,9 +153,6 @@ ran c =
     second_run r c.requires lw ld c.up_to_filled-n.result c.up_to_filled-n.ensures.0 (rw lp c.up_to_filled-n.ensures.1) c.joins_length.result
     c.places_length-others.result c.joins_length.ensures.0 (rw c.schema-schema.ensures.value at c.places_length-others.ensures).0 c.args.buffer.now c.if-buffer-size.false
     c.put_directory.new.buffer (rw c.schema-schema.ensures.value at c.put_directory.ensures) c.put_parts.new.buffer c.put_parts.ensures
-
-pub shape_of-buffer : goal.shape_of-buffer
-shape_of-buffer c = (ran (goal.at.shape_of-buffer c).After-put_parts).long
 
 pub returns : goal.returns
 returns c =
