@@ -89,17 +89,6 @@ pub fn relations_good(relations: u8, widths: [u8; 8]) -> bool
         )
 }
 
-// At most 8 widths, and 0 for each that is not in use.
-// Kept as it is: `planning::widths_of` has the same body, and the evaluation, to which it belongs, stands on no crate of records.
-pub fn padded_widths(widths: &[u8]) -> [u8; 8]
-    requires { length widths.now ≤ 8 }
-    ensures { result ≡ widths.now ++ replicate (8 - length widths.now) 0 }
-{
-    let mut padded = [0; 8];
-    padded[..widths.len()].copy_from_slice(widths);
-    padded
-}
-
 // ---- dependencies
 
 // Whether a dependency is that of a slot not in use.

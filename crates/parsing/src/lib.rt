@@ -153,7 +153,7 @@ pub fn read_relations(part: &[u8]) -> Option<Schema>
     if 8 < widths.len() || widths.len() != usize::from(*count) {
         return None;
     }
-    Schema::new(*count, limits::padded_widths(widths))
+    Schema::new(*count, chains::padded(widths, 0))
 }
 
 // ---- part 1: functional dependencies
@@ -197,14 +197,11 @@ pub fn read_dependencies(part: &[u8], schema: Schema) -> Option<((u8, [Dependenc
 // ---- part 1: join dependencies
 
 // At most 4 sets from a position on, and 0 for each that is not in use.
-// Kept as it is: `passes::bound_at` copies alike, but words, of which there are 8, and in a crate that has nothing to do with files.
 pub fn read_sets(part: &[u8], at: usize, n: usize) -> [u8; 4]
     requires { (n ≤ 4) × (at + n ≤ length part.now) }
     ensures { result ≡ pad 4 0 (take n (drop at part.now)) }
 {
-    let mut sets = [0; 4];
-    sets[..n].copy_from_slice(&part[at..at + n]);
-    sets
+    chains::padded(&part[at..at + n], 0)
 }
 
 // A join dependency: relation, number of sets, and the sets, a byte each.

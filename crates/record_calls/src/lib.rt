@@ -49,7 +49,7 @@ pub fn open(widths: &[u8]) -> Outcome
         return refused(Refusal::BadRelations, blank_record());
     }
     let relations = widths.len() as u8;
-    let padded = limits::padded_widths(widths);
+    let padded = chains::padded(widths, 0);
     if !limits::relations_good(relations, padded) {
         return refused(Refusal::BadRelations, blank_record());
     }

@@ -29,8 +29,8 @@ pub returns : goal.returns
 returns c =
     let n = c.in_ok-count.count.now in
     let widths = c.in_ok-count.widths.now in
-    let padded : c.padded_widths.result ≡ widths ++ replicate (8 - length widths) 0 = c.padded_widths.ensures in
+    let padded : c.padded.result ≡ widths ++ replicate (8 - length widths) 0 = c.padded.ensures in
     rw (c.in_ok-count.ensures.cases.0)
-    (schema-given c.new.result n c.padded_widths.result c.new.ensures.some c.new.ensures.fields
+    (schema-given c.new.result n c.padded.result c.new.ensures.some c.new.ensures.fields
     ∙ ap (λ (ws : List ℕ). cond (good_relations n ws) (Some (n, ws)) None) padded
     ∙ sym (right-count n widths (c.if-widths-from.false ∙ c.from.ensures)))

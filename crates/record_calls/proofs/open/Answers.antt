@@ -21,13 +21,13 @@ returns-then-not-relations_good c =
     ∙ open-unfit c.args.widths.now
     (sym (c.relations_good.ensures ∙ ap
     (good_relations (length c.args.widths.now))
-    c.padded_widths-padded.ensures) ∙ c.if-not-relations_good.true)
+    c.padded-padded.ensures) ∙ c.if-not-relations_good.true)
 
 pub returns : goal.returns
 returns c =
     c.done.ensures ∙ open_done c.args.widths.now
     (sym (c.relations_good.ensures ∙ ap
     (good_relations (length c.args.widths.now))
-    c.padded_widths-padded.ensures) ∙ c.if-not-relations_good.false) c.opened.result
+    c.padded-padded.ensures) ∙ c.if-not-relations_good.false) c.opened.result
     (c.opened.ensures ∙ ap (empty_record (length c.args.widths.now))
-    c.padded_widths-padded.ensures)
+    c.padded-padded.ensures)
