@@ -2,10 +2,11 @@
 #![tactic(auto)]
 
 ghost use Rattle.std.specs.Prelude.{◌≡◌, true, take};
-ghost use Rattle.query.specs.Rule.{good_relations};
+ghost use Rattle.limits.specs.Schema.{widths_in};
 ghost use Rattle.refusals.specs.Refusal.{reply_of};
 ghost use Rattle.format.specs.File.{is_vacant, read_place};
 
+use limits::schema::Schema;
 use parsing::read_query;
 use query::Place;
 use record::calls::no_place;
@@ -15,16 +16,12 @@ use refusals::Refusal;
 fn is_vacant(part: &[u8]) -> bool
     ensures { result ≡ is_vacant part.now }
 {
-    if part.len() == 1 {
-        return part[0] == 255;
-    }
-    false
+    part == [255].as_slice()
 }
 
 // A query part: a vacant place, or a query whose head is safe. The last one is not vacant.
-pub fn read_place(part: &[u8], last: bool, count: u8, widths: [u8; 8]) -> Result<Place, Refusal>
-    requires { good_relations count widths ≡ true }
-    ensures { reply_of result ≡ read_place (take count widths) last part.now }
+pub fn read_place(part: &[u8], last: bool, schema: Schema) -> Result<Place, Refusal>
+    ensures { reply_of result ≡ read_place (widths_in schema) last part.now }
 {
     if is_vacant(part) {
         if last {
@@ -32,13 +29,12 @@ pub fn read_place(part: &[u8], last: bool, count: u8, widths: [u8; 8]) -> Result
         }
         return Ok(no_place());
     }
-    let Some(read) = read_query(part, count, widths) else {
+    let Some((query, rest)) = read_query(part, schema) else {
         return Err(Refusal::BadQuery);
     };
-    let query = read.query;
-    let safe = limits::head_safe(count, widths, query);
+    let safe = schema.head_safe(query);
     // a byte too many is asked before the head is judged
-    if !read.whole {
+    if !rest.is_empty() {
         return Err(Refusal::BadQuery);
     }
     if safe {

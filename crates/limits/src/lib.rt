@@ -90,6 +90,7 @@ pub fn relations_good(relations: u8, widths: [u8; 8]) -> bool
 }
 
 // At most 8 widths, and 0 for each that is not in use.
+// Kept as it is: `planning::widths_of` has the same body, and the evaluation, to which it belongs, stands on no crate of records.
 pub fn padded_widths(widths: &[u8]) -> [u8; 8]
     requires { length widths.now ≤ 8 }
     ensures { result ≡ widths.now ++ replicate (8 - length widths.now) 0 }

@@ -1,33 +1,18 @@
 -- A part that holds a count and then so many values: what the reader's answers say of the format's reading of the whole part.
 use mathlib.Core.Path.{◌≡◌, refl, sym, ap, ◌∙◌}
 use mathlib.Core.Bool.{Bool, true}
+use borrow.Author.Tests.{leb-true}
+use Rattle.format.proofs.Formats.{not-got, got_if-true}
 use mathlib.Core.List.{List, [], ◌∷◌}
 use Prim.Native.Nat.{ℕ, ◌+◌, ◌≤◌, ◌<◌}
-use lib.ListN.{length, drop, set, replicate, drop_of_length-le}
-use lib.Seq.{drop-cons}
+use native.Mathlib.Omega.{arith}
+use lib.ListN.{length, set, replicate}
 use lib.Dec.{leb, leb-zero}
 use Rattle.lists.specs.Tests.{between}
-use Rattle.format.specs.Format.{Reading, none, got, got_if, then_read, map_reading, Format, get_byte, byte, sequence, padded}
+use Rattle.format.specs.Format.{Reading, none, got, then_read, map_reading, Format, get_byte, byte, sequence, padded}
 use Rattle.refusals.specs.Refusals.{gives, refused}
 use Rattle.format.specs.File.{complete}
 use Rattle.format.proofs.Filling.{Filling, filling-starts, filling-turns, filling-fails, filling-ends}
-use Rattle.std.proofs.Common.{Some}
-use Rattle.parsing.specs.internal.Read.{value_read}
-use Rattle.parsing.proofs.Values.{got_if-value}
-
--- ---- a byte's answer
-
-byte-front : (test : ℕ → Bool) (bytes : List ℕ) (b : ℕ) → Some b ≡ value_read (get_byte test bytes) → (test b ≡ true) × (get_byte test bytes ≡ got b (drop 1 bytes))
-unfolding get_byte got_if
-byte-front test [] b h = cc
-byte-front test (x ∷ bytes) b h =
-    let (t, e, _) = got_if-value (test x) x b bytes h in
-    let u : test b ≡ true = ap test (sym e) ∙ t in
-    (u, rw (e, u))
-
-pub byte-read : (test : ℕ → Bool) (s : List ℕ) (at b : ℕ) → Some b ≡ value_read (get_byte test (drop at s))
-    → (test b ≡ true) × (get_byte test (drop at s) ≡ got b (drop (at + 1) s))
-byte-read test s at b h = let (t, e) = byte-front test (drop at s) b h in (t, e ∙ rw (lib.Seq.drop-drop 1 at s))
 
 -- ---- one value and then another
 
@@ -46,11 +31,30 @@ complete-none : {A : Type 0} (m : ℕ) (o : Reading A) → o ≡ none → comple
 unfolding complete
 complete-none m o e = rw e
 
+complete-whole : {A : Type 0} (m : ℕ) (a : A) (rest : List ℕ) → length rest ≡ 0 → complete m (got a rest) ≡ gives a
+unfolding complete
+complete-whole m a [] l = refl
+complete-whole m a (b ∷ rest) l = absurd (omega arith)
+
+complete-long : {A : Type 0} (m : ℕ) (a : A) (rest : List ℕ) → (length rest ≡ 0 → ⊥) → complete m (got a rest) ≡ refused m
+unfolding complete
+complete-long m a [] l = absurd (l refl)
+complete-long m a (b ∷ rest) l = refl
+
 -- no lower limit
 pub no-low : (high : ℕ) (bytes : List ℕ) → get_byte (between 0 high) bytes ≡ get_byte (λ n. leb n high) bytes
 unfolding get_byte
 no-low high [] = refl
 no-low high (b ∷ bytes) = rw (leb-zero b)
+
+-- a byte that was read is within its limit
+pub byte-read : (test : ℕ → Bool) (bytes : List ℕ) (b : ℕ) (rest : List ℕ) → get_byte test bytes ≡ got b rest → test b ≡ true
+unfolding get_byte
+byte-read test [] b rest e = absurd (not-got e)
+byte-read test (x ∷ bytes) b rest e = let (t, is, _) = got_if-true (test x) x b bytes rest e in ap test (sym is) ∙ t
+
+pub byte-within : (high : ℕ) (bytes : List ℕ) (b : ℕ) (rest : List ℕ) → get_byte (λ n. leb n high) bytes ≡ got b rest → b ≤ high
+byte-within high bytes b rest e = leb-true b high (byte-read (λ n. leb n high) bytes b rest e)
 
 -- ---- a part that holds a count and then so many values
 
@@ -59,21 +63,23 @@ module _ {A : Type 0} (test : ℕ → Bool) (total : ℕ) (blank : A) (is_blank 
   abbrev pub counted : Format (ℕ × List A)
   counted = sequence (byte test) (λ n. padded total blank is_blank n f)
 
-  -- The values after the count, as the format reads them
-  pub values : ℕ → Reading (List A)
-  values n = (padded total blank is_blank n f).get (drop 1 part)
+  -- The values that bytes begin with, as the format reads them
+  pub values : ℕ → List ℕ → Reading (List A)
+  values n front = (padded total blank is_blank n f).get front
 
-  -- What has been read: the count n, and i values, which stand in the array; the others are read from a position on
-  pub record Counting (n : ℕ) (xs : List A) (i at : ℕ) : Type 0 where
-    pub head : counted.get part ≡ map_reading (λ ys. (n, ys)) (values n)
-    pub rest : Filling f.get (values n) n xs i (drop at part)
+  -- What has been read: the count n, and i values, which stand in the array; the others are read off the bytes left
+  pub record Counting (n : ℕ) (xs : List A) (i : ℕ) (left : List ℕ) : Type 0 where
+    pub front : List ℕ
+    pub head : counted.get part ≡ map_reading (λ ys. (n, ys)) (values n front)
+    pub rest : Filling f.get (values n front) n xs i left
 
-  pub counting-starts : (n : ℕ) → get_byte test part ≡ got n (drop 1 part) → Counting n (replicate total blank) 0 1
+  pub counting-starts : (n : ℕ) (front : List ℕ) → get_byte test part ≡ got n front → Counting n (replicate total blank) 0 front
   unfolding byte padded values
-  counting-starts n e =
+  counting-starts n front e =
       record {
-        head = sequence-got (byte test) (λ n. padded total blank is_blank n f) part n (drop 1 part) e;
-        rest = filling-starts f.get total blank n (drop 1 part);
+        front = front;
+        head = sequence-got (byte test) (λ n. padded total blank is_blank n f) part n front e;
+        rest = filling-starts f.get total blank n front;
       }
 
   -- there is no count, in a part that holds more, and in one that is to hold no more
@@ -84,28 +90,26 @@ module _ {A : Type 0} (test : ℕ → Bool) (total : ℕ) (blank : A) (is_blank 
   pub no-count : (m : ℕ) → get_byte test part ≡ none → complete m (counted.get part) ≡ refused m
   no-count m e = complete-none m (counted.get part) (no-count-front e)
 
-  module _ {n : ℕ} {xs : List A} {i at : ℕ} (c : Counting n xs i at) where
-    pub counting-turns : (x : A) (next : ℕ) → i < n → i < length xs → f.get (drop at part) ≡ got x (drop next part) → Counting n (set xs i x) (i + 1) next
-    counting-turns x next h l e = record { head = c.head; rest = filling-turns c.rest x (drop next part) h l e }
+  module _ {n : ℕ} {xs : List A} {i : ℕ} {left : List ℕ} (c : Counting n xs i left) where
+    pub counting-turns : (x : A) (next : List ℕ) → i < n → i < length xs → f.get left ≡ got x next → Counting n (set xs i x) (i + 1) next
+    counting-turns x next h l e = record { front = c.front; head = c.head; rest = filling-turns c.rest x next h l e }
 
     -- a value is bad, or the part too short
-    pub counting-fails-front : i < n → f.get (drop at part) ≡ none → counted.get part ≡ none
+    pub counting-fails-front : i < n → f.get left ≡ none → counted.get part ≡ none
     unfolding map_reading
     counting-fails-front h e = rw (c.head, filling-fails c.rest h e)
 
-    pub counting-fails : (m : ℕ) → i < n → f.get (drop at part) ≡ none → complete m (counted.get part) ≡ refused m
+    pub counting-fails : (m : ℕ) → i < n → f.get left ≡ none → complete m (counted.get part) ≡ refused m
     counting-fails m h e = complete-none m (counted.get part) (counting-fails-front h e)
 
     -- after the last value more may follow
-    pub counting-ends-front : n ≤ i → counted.get part ≡ got (n, xs) (drop at part)
+    pub counting-ends-front : n ≤ i → counted.get part ≡ got (n, xs) left
     unfolding map_reading
     counting-ends-front h = rw (c.head, filling-ends c.rest h)
 
     -- or the part ends, or it is too long
-    pub counting-ends : (m : ℕ) → n ≤ i → length part ≤ at → complete m (counted.get part) ≡ gives (n, xs)
-    unfolding complete
-    counting-ends m h l = rw (counting-ends-front h, drop_of_length-le part {i = at} l)
+    pub counting-ends : (m : ℕ) → n ≤ i → length left ≡ 0 → complete m (counted.get part) ≡ gives (n, xs)
+    counting-ends m h l = ap (complete m) (counting-ends-front h) ∙ complete-whole m (n, xs) left l
 
-    pub counting-long : (m : ℕ) → n ≤ i → at < length part → complete m (counted.get part) ≡ refused m
-    unfolding complete
-    counting-long m h l = rw (counting-ends-front h, drop-cons part at 0 l)
+    pub counting-long : (m : ℕ) → n ≤ i → (length left ≡ 0 → ⊥) → complete m (counted.get part) ≡ refused m
+    counting-long m h l = ap (complete m) (counting-ends-front h) ∙ complete-long m (n, xs) left l

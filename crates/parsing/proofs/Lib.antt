@@ -3,6 +3,8 @@ pub mod Words
 pub mod Values
 pub mod Positions
 pub mod Counted
+pub mod Times
+pub mod Relations
 pub mod RowLaws
 pub mod ReadingRows
 pub mod QueryLaws

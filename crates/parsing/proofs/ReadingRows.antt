@@ -1,239 +1,108 @@
--- A loop that reads rows into flat arrays, entry by entry: what has been read of all rows, and of the row at hand.
+-- A loop that reads rows into flat arrays: what has been read of them.
 use mathlib.Core.Path.{◌≡◌, sym, ap, refl, ◌∙◌}
-use mathlib.Core.Bool.{Bool, true, false}
-use mathlib.Core.List.{List}
-use Prim.Native.Nat.{ℕ, ◌+◌, ◌*◌, ◌-◌, ◌^◌, ◌≤◌, ◌<◌}
-use native.Mathlib.Nat.{add-zero}
+use mathlib.Core.List.{List, ◌++◌, append_assoc}
+use Prim.Native.Nat.{ℕ, ◌+◌, ◌-◌, ◌*◌, ◌≤◌, ◌<◌}
 use native.Mathlib.Omega.{arith}
-use borrow.Author.Rules.{rules}
-use borrow.Author.Tests.{leb-true, leb-false, eq-eqb, ne_eqb}
-use mir.Syntax.{w8, w64}
-use mir.Val.{Fits}
-use lib.Dec.{eqb, leb}
-use lib.ListN.{length, take, drop, get_or, set, replicate, length-set, length-drop}
-use lib.Seq.{take_all, drop-drop, get_or-take, length-take-le}
+use borrow.Rule.Slice.PartMut.{put_mid, Post-is}
+use lib.ListN.{length, take, drop, set, replicate, length-replicate, length-set}
+use lib.Seq.{take_all, drop-drop}
 use Rattle.query.specs.declared.Cell.{Cell}
-use Rattle.query.specs.Rule.{no_cell, good_relations}
-use Rattle.lists.specs.Over.{over}
-use Rattle.format.specs.Format.{Reading, none, got, padded}
-use Rattle.format.specs.Parts.{entry, entries, row, no_row, rows, chunk, flat}
+use Rattle.query.specs.Rule.{no_cell}
+use Rattle.lists.specs.Over.{over, pad}
 use Rattle.lists.proofs.Loops.{replicate-drop}
-use Rattle.format.proofs.Parts.{Narrow, map-chunk, flat-chunk}
+use Rattle.lists.proofs.Over.{over-length, over-over, pad-is, length-pad}
+use Rattle.format.specs.Format.{Reading, none, got, map_reading, padded}
+use Rattle.format.specs.Parts.{row, no_row, rows, chunk, flat}
+use Rattle.format.proofs.Parts.{map-chunk, flat-chunk}
 use Rattle.format.proofs.Rules.{length-chunk}
-use Rattle.query.proofs.Relations.{relations-bounds, width-le}
-use Rattle.std.proofs.Common.{Option, None, Some}
-use Rattle.parsing.specs.internal.Read.{value_read, rows_read}
-use Rattle.parsing.proofs.Values.{value-none}
-use Rattle.parsing.proofs.Positions.{entry-read}
 use Rattle.format.proofs.Filling.{Filling, filling-starts, filling-turns, filling-fails, filling-ends}
-use Rattle.parsing.proofs.RowLaws.{row-bad, row-good, row-bounds, chunk-set, set-over, blank-over, drop-past-over}
+use Rattle.parsing.specs.internal.Read.{stored_rows}
+use Rattle.parsing.proofs.RowLaws.{chunk-set, blank-over, drop-past-over}
 
--- The rows from the start on, as the format reads them
-abbrev pub Rows : List ℕ → List ℕ → ℕ → ℕ → Reading (List (ℕ × List Cell))
-Rows schema part start size = (rows 12 schema size).get (drop start part)
+-- A stretch of cells, put back where it stood
+pub put-cells : (cells new : List Cell) (at width : ℕ) → length new ≡ width → put_mid at (at + width - at) cells new ≡ over cells at new
+put-cells cells new at width l =
+    let n : at + width ≡ at + length new = omega arith in
+    ap (λ (z : List Cell). take at cells ++ (new ++ z)) (Post-is at (at + width) cells (omega arith) ∙ ap (λ (k : ℕ). drop k cells) n)
+    ∙ sym (append_assoc (take at cells) new (drop (at + length new) cells))
 
--- What has been read of the rows: r of them, up to a position; the cells after them are blank
-pub record At (schema part : List ℕ) (start size : ℕ) (relations : List ℕ) (cells : List Cell) (at r : ℕ) : Type 0 where
+-- Entries over blank cells are a row of 8
+row-over : (cells new : List Cell) (at m : ℕ) → length cells ≡ at + m → drop at cells ≡ replicate m no_cell → length new ≤ 8 → 8 ≤ m
+    → over cells at new ≡ over cells at (pad 8 no_cell new)
+row-over cells new at m long blank few room =
+    let past : drop (at + length new) (over cells at new) ≡ replicate (m - length new) no_cell =
+    drop-past-over cells at (length new) new (omega arith) refl ∙ sym (drop-drop (length new) at cells)
+    ∙ ap (λ (cs : List Cell). drop (length new) cs) blank ∙ replicate-drop (length new) m no_cell in
+    let blanks : pad 8 no_cell new ≡ new ++ replicate (8 - length new) no_cell =
+    pad-is 8 no_cell new ∙ ap (λ (zs : List Cell). new ++ zs) (replicate-drop (length new) 8 no_cell) in
+    sym (blank-over (over cells at new) (at + length new) (8 - length new) (m - length new) no_cell past (omega arith))
+    ∙ over-over cells at new (replicate (8 - length new) no_cell) (omega (arith, length-replicate (8 - length new) no_cell))
+    ∙ ap (λ (cs : List Cell). over cells at cs) (sym blanks)
+
+-- The rows as the format reads them
+abbrev pub Rows : List ℕ → List ℕ → ℕ → Reading (List (ℕ × List Cell))
+Rows schema s size = (rows 12 schema size).get s
+
+-- What has been read of the rows: r of them, up to some bytes
+pub record At (schema s : List ℕ) (size : ℕ) (relations : List ℕ) (cells : List Cell) (r : ℕ) (rest : List ℕ) : Type 0 where
   pub few : r ≤ size
-  pub inside : at ≤ length part
   pub relations-long : length relations ≡ 12
   pub cells-long : length cells ≡ 96
   pub blank : drop (8 * r) cells ≡ replicate (96 - 8 * r) no_cell
-  pub reading : Filling (row schema).get (Rows schema part start size) size (chunk relations cells) r (drop at part)
+  pub reading : Filling (row schema).get (Rows schema s size) size (chunk relations cells) r rest
 
--- At a position stands the relation of a row that is this wide
-pub record Known (schema part : List ℕ) (at width : ℕ) : Type 0 where
-  pub inside : at < length part
-  pub known : get_or part at 0 < length schema
-  pub wide : get_or schema (get_or part at 0) 0 ≡ width
-  pub narrow : width ≤ 8
-
--- What has been read of row r, which starts at a position: i of its entries, over the cells before them
-pub record InRow (schema part : List ℕ) (at r width : ℕ) (before cells : List Cell) (i : ℕ) : Type 0 where
-  pub of : Known schema part at width
-  pub few : i ≤ width
-  pub small : width ≤ 8
-  pub row : List Cell
-  pub long : length row ≡ 8
-  pub cells-long : length cells ≡ 96
-  pub stored : cells ≡ over before (8 * r) row
-  pub reading : Filling entry.get ((entries width).get (drop (at + 1) part)) width row i (drop (at + 1 + 5 * i) part)
-
--- there are as many widths in use as relations
-pub schema-length : (count : ℕ) (widths : List ℕ) → good_relations count widths ≡ true → length widths ≡ 8 → length (take count widths) ≡ count
-schema-length count widths good long = length-take-le count widths (omega (arith, (relations-bounds count widths good).1))
-
-pub known-row : (count : ℕ) (widths part : List ℕ) (at : ℕ) → good_relations count widths ≡ true → length widths ≡ 8 → at < length part → get_or part at 0 < count
-    → Known (take count widths) part at (get_or widths (get_or part at 0) 0)
-known-row count widths part at good long inside k =
-    let r : ℕ = get_or part at 0 in
-    let same : get_or (take count widths) r 0 ≡ get_or widths r 0 = get_or-take count widths r 0 k in
-    record {
-      inside = inside;
-      known = rw (schema-length count widths good long) k;
-      wide = same;
-      narrow = omega (arith, same, width-le count widths good r);
-    }
-
-pub begins : (schema part : List ℕ) (start size : ℕ) → start ≤ length part
-    → At schema part start size (replicate 12 0) (replicate 96 no_cell) start 0
+pub begins : (schema s : List ℕ) (size : ℕ) → At schema s size (replicate 12 0) (replicate 96 no_cell) 0 s
 unfolding rows padded chunk
-begins schema part start size h =
+begins schema s size =
     record {
       few = omega arith;
-      inside = h;
       relations-long = refl;
       cells-long = refl;
       blank = refl;
-      reading = filling-starts (row schema).get 12 no_row size (drop start part);
+      reading = filling-starts (row schema).get 12 no_row size s;
     }
 
--- whether a position is past the last byte
-at-end : (part : List ℕ) (at : ℕ) → leb (length part) at ≡ eqb (length (drop at part)) 0
-at-end part at = rw length-drop (go (leb (length part) at) refl)
-  where
-    go : (t : Bool) → leb (length part) at ≡ t → t ≡ eqb (length part - at) 0
-    go true e = sym (eq-eqb (length part - at) 0 (let l = leb-true (length part) at e in omega arith))
-    go false e = sym (ne_eqb (length part - at) 0 (λ z. let l = leb-false (length part) at e in omega arith))
-
-module _ (schema part : List ℕ) (start size : ℕ) (relations : List ℕ) (cells : List Cell) (at r : ℕ) (f : At schema part start size relations cells at r) where
+module _ (schema s : List ℕ) (size : ℕ) (relations : List ℕ) (cells : List Cell) (r : ℕ) (rest : List ℕ) (f : At schema s size relations cells r rest) where
   -- a row that can't be read
-  pub fails : r < size → (row schema).get (drop at part) ≡ none → None ≡ rows_read (Rows schema part start size)
-  fails h e = sym (ap rows_read (filling-fails f.reading h e))
+  pub fails : r < size → (row schema).get rest ≡ none → none ≡ map_reading stored_rows (Rows schema s size)
+  unfolding map_reading
+  fails h e = rw (filling-fails f.reading h e)
+
+  -- one row more
+  pub goes_on : (relation : ℕ) (new : List Cell) (after : List ℕ) (all : List Cell) → r < size → size ≤ 12 → length new ≤ 8
+      → (row schema).get rest ≡ got (relation, pad 8 no_cell new) after → all ≡ over cells (8 * r) new
+      → At schema s size (set relations r relation) all (r + 1) after
+  goes_on relation new after all h few narrow e stored =
+      let lr : length relations ≡ 12 = f.relations-long in
+      let ll : length cells ≡ 96 = f.cells-long in
+      let cs : List Cell = pad 8 no_cell new in
+      let lc : length cs ≡ 8 = length-pad 8 no_cell new narrow in
+      let whole : all ≡ over cells (8 * r) cs = stored ∙ row-over cells new (8 * r) (96 - 8 * r) (omega arith) f.blank narrow (omega arith) in
+      let turned : Filling (row schema).get (Rows schema s size) size (set (chunk relations cells) r (relation, cs)) (r + 1) after =
+      filling-turns f.reading (relation, cs) after h (rw length-chunk (omega arith)) e in
+      let chunks : chunk (set relations r relation) (over cells (8 * r) cs) ≡ set (chunk relations cells) r (relation, cs) =
+      chunk-set relations cells r relation cs (omega arith) (omega arith) lc in
+      let n : 8 * r + 8 ≡ 8 * (r + 1) = omega arith in
+      let m : 96 - 8 * r - 8 ≡ 96 - 8 * (r + 1) = omega arith in
+      let left : drop (8 * (r + 1)) (over cells (8 * r) cs) ≡ replicate (96 - 8 * (r + 1)) no_cell =
+      ap (λ (x : ℕ). drop x (over cells (8 * r) cs)) (sym n) ∙ drop-past-over cells (8 * r) 8 cs (omega arith) lc
+      ∙ sym (drop-drop 8 (8 * r) cells) ∙ ap (λ (cs : List Cell). drop 8 cs) f.blank ∙ replicate-drop 8 (96 - 8 * r) no_cell
+      ∙ ap (λ (x : ℕ). replicate x no_cell) m in
+      record {
+        few = omega arith;
+        relations-long = length-set relations r relation ∙ lr;
+        cells-long = ap length whole ∙ over-length cells cs (8 * r) (omega arith) ∙ ll;
+        blank = rw whole left;
+        reading = rw (whole, chunks) turned;
+      }
 
   -- all of them are read
-  pub accepted : size ≤ r → Some (record { whole = leb (length part) at; relations = relations; cells = cells }) ≡ rows_read (Rows schema part start size)
+  pub accepted : size ≤ r → got (record { relations = relations; cells = cells }) rest ≡ map_reading stored_rows (Rows schema s size)
+  unfolding map_reading
   accepted h =
-      let w : Rows schema part start size ≡ got (chunk relations cells) (drop at part) = filling-ends f.reading h in
+      let w : Rows schema s size ≡ got (chunk relations cells) rest = filling-ends f.reading h in
       let e : cells ≡ flat (chunk relations cells) =
       sym (flat-chunk relations cells ∙ take_all (8 * length relations) cells (omega (arith, f.cells-long, f.relations-long))) in
-      let same : Some (record { whole = leb (length part) at; relations = relations; cells = cells })
-      ≡ rows_read (got (chunk relations cells) (drop at part)) =
-      λ i. Some (record { whole = at-end part at i; relations = sym (map-chunk relations cells) i; cells = e i }) in
-      same ∙ sym (ap rows_read w)
-
-  pub row-begins : (width : ℕ) → Known schema part at width → r < 12 → InRow schema part at r width cells cells 0
-  unfolding entries padded
-  row-begins width k h =
-      record {
-        of = k;
-        few = omega arith;
-        small = k.narrow;
-        row = replicate 8 no_cell;
-        long = refl;
-        cells-long = f.cells-long;
-        stored = sym (blank-over cells (8 * r) 8 (96 - 8 * r) no_cell f.blank (omega arith));
-        reading = rw add-zero (filling-starts entry.get 8 no_cell width (drop (at + 1) part));
-      }
-
-module _ (schema part : List ℕ) (at r width : ℕ) (before cells : List Cell) (i : ℕ) (g : InRow schema part at r width before cells i) (o : Option Cell)
-    (p : o ≡ value_read (entry.get (drop (at + 1 + 5 * i) part))) where
-  pub row-goes-on : (e : Cell) → o ≡ Some e → r < 12 → length before ≡ 96 → i < width
-      → InRow schema part at r width before (set cells (8 * r + i) e) (i + 1)
-  row-goes-on e q few lb h =
-      let read : entry.get (drop (at + 1 + 5 * i) part) ≡ got e (drop 5 (drop (at + 1 + 5 * i) part)) =
-      entry-read (drop (at + 1 + 5 * i) part) e (sym q ∙ p) in
-      let k : at + 1 + 5 * i + 5 ≡ at + 1 + 5 * (i + 1) = omega arith in
-      let d : drop 5 (drop (at + 1 + 5 * i) part) ≡ drop (at + 1 + 5 * (i + 1)) part = drop-drop 5 (at + 1 + 5 * i) part ∙ ap (λ (m : ℕ). drop m part) k in
-      let lr : length g.row ≡ 8 = g.long in
-      let l : i < 8 = omega (arith, g.small) in
-      record {
-        of = g.of;
-        few = omega arith;
-        small = g.small;
-        row = set g.row i e;
-        long = length-set g.row i e ∙ lr;
-        cells-long = length-set cells (8 * r + i) e ∙ g.cells-long;
-        stored = ap (λ (cs : List Cell). set cs (8 * r + i) e) g.stored
-            ∙ set-over before (8 * r) i e g.row (omega arith) (omega arith);
-        reading = rw (← d) (filling-turns g.reading e (drop 5 (drop (at + 1 + 5 * i) part)) h (omega arith) read);
-      }
-
-  pub row-stops : o ≡ None → i < width → (row schema).get (drop at part) ≡ none
-  row-stops q h =
-      row-bad schema part at g.of.inside g.of.known
-      (rw g.of.wide (filling-fails g.reading h (value-none (entry.get (drop (at + 1 + 5 * i) part)) (sym q ∙ p))))
-
--- a row that is read to its end is one row more
-pub row_ends : (schema part : List ℕ) (start size : ℕ) (relations : List ℕ) (before cells : List Cell) (at r width i : ℕ) → Narrow schema
-    → At schema part start size relations before at r → InRow schema part at r width before cells i → r < size → size ≤ 12 → width ≤ i
-    → At schema part start size (set relations r (get_or part at 0)) cells (at + 1 + 5 * width) (r + 1)
-row_ends schema part start size relations before cells at r width i narrow f g h few ended =
-    let same : get_or schema (get_or part at 0) 0 ≡ width = g.of.wide in
-    let rest : List ℕ = drop (at + 1 + 5 * i) part in
-    let relation : ℕ = get_or part at 0 in
-    let er : (row schema).get (drop at part) ≡ got (relation, g.row) rest =
-    row-good schema part at g.of.inside g.of.known g.row rest (rw same (filling-ends g.reading ended)) in
-    let (lc, d, k) = row-bounds schema part at (relation, g.row) rest narrow f.inside er in
-    let d' : drop (at + 1 + 5 * width) part ≡ rest = rw (← same) d in
-    let k' : at + 1 + 5 * width ≤ length part = rw (← same) k in
-    let lr : length relations ≡ 12 = f.relations-long in
-    let ll : length before ≡ 96 = f.cells-long in
-    let turned : Filling (row schema).get (Rows schema part start size) size (set (chunk relations before) r (relation, g.row)) (r + 1) rest =
-    filling-turns f.reading (relation, g.row) rest h (rw length-chunk (omega arith)) er in
-    let chunks : chunk (set relations r relation) (over before (8 * r) g.row) ≡ set (chunk relations before) r (relation, g.row) =
-    chunk-set relations before r relation g.row (omega arith) (omega arith) lc in
-    let n : 8 * r + 8 ≡ 8 * (r + 1) = omega arith in
-    let m : 96 - 8 * r - 8 ≡ 96 - 8 * (r + 1) = omega arith in
-    let after : drop (8 * (r + 1)) (over before (8 * r) g.row) ≡ replicate (96 - 8 * (r + 1)) no_cell =
-    ap (λ (x : ℕ). drop x (over before (8 * r) g.row)) (sym n) ∙ drop-past-over before (8 * r) 8 g.row (omega arith) lc
-    ∙ sym (drop-drop 8 (8 * r) before) ∙ ap (λ (cs : List Cell). drop 8 cs) f.blank ∙ replicate-drop 8 (96 - 8 * r) no_cell
-    ∙ ap (λ (x : ℕ). replicate x no_cell) m in
-    record {
-      few = omega arith;
-      inside = k';
-      relations-long = length-set relations r relation ∙ lr;
-      cells-long = g.cells-long;
-      blank = rw g.stored after;
-      reading = rw (g.stored, chunks, d') turned;
-    }
-
--- ---- the numbers of the loops
-
--- the position after one in the part is a word
-pub next_fits : (at length : ℕ) → at < length → length * 1 < 2 ^ 63 → Fits w64 (at + 1)
-next_fits at length inside room = search rules
-
--- and so is one that an entry of the row starts at, or the row ends at
-pub entry-fits : (at length n : ℕ) → at < length → length * 1 < 2 ^ 63 → n ≤ 8 → Fits w64 (at + 1 + 5 * n)
-entry-fits at length n inside room h = search rules
-
--- the bytes of a row's entries are few
-pub entries_fit : (n : ℕ) → n ≤ 8 → Fits w64 (5 * n)
-entries_fit n h = search rules
-
--- a number below a byte is a word
-pub relation-fits : (relation count : ℕ) → relation < count → Fits w8 count → Fits w64 relation
-relation-fits relation count h f = search rules
-
--- a row that is still to be read is one of twelve
-pub row_inside : (r size : ℕ) → r < size → size ≤ 12 → r < 12
-row_inside r size h few = omega arith
-
--- its cells are among the 96
-pub cell-inside : (r size i width : ℕ) → r < size → size ≤ 12 → i < width → width ≤ 8 → 8 * r + i < 96
-cell-inside r size i width h few l narrow = omega arith
-
--- a cell's index is a word
-pub cell-fits : (n : ℕ) → n < 96 → Fits w64 n
-cell-fits n h = search rules
-
--- and so is its offset in bytes
-pub offset-fits : (n : ℕ) → n < 96 → Fits w64 (n * 8)
-offset-fits n h = search rules
-
--- the first cell of a row has an index that is a word
-pub row_fits : (r size : ℕ) → r < size → size ≤ 12 → Fits w64 (8 * r)
-row_fits r size h few = search rules
-
--- the number of rows read is a word
-pub next-row-fits : (r size : ℕ) → r < size → size ≤ 12 → Fits w64 (r + 1)
-next-row-fits r size h few = search rules
-
--- the number of entries read is a word
-pub next-entry-fits : (i width : ℕ) → i < width → width ≤ 8 → Fits w64 (i + 1)
-next-entry-fits i width h narrow = search rules
-
--- no more entries of a row are read than it can have
-pub short : {schema part : List ℕ} {at r width : ℕ} {before cells : List Cell} {i : ℕ} → InRow schema part at r width before cells i → i ≤ 8
-short g = omega (arith, g.few, g.small)
+      let same : got (record { relations = relations; cells = cells }) rest ≡ map_reading stored_rows (got (chunk relations cells) rest) =
+      λ i. got (record { relations = sym (map-chunk relations cells) i; cells = e i }) rest in
+      same ∙ sym (ap (map_reading stored_rows) w)

@@ -1,18 +1,19 @@
 // What the parts of a file hold, read off bytes: numbers, then the query of a query part, the relations of part 0 and the dependencies of both kinds of part 1.
-// Each reader answers none where the bytes are no good value.
+// A reader of what may be followed by more hands back the value and the bytes after it. Each answers none where the bytes are no good value.
 #![tactic(auto)]
 
 ghost use Rattle.std.specs.Prelude.{◌≡◌, true, ◌+◌, ◌≤◌, ◌<◌, length, take, drop};
 ghost use Rattle.lists.specs.Tests.{between};
 ghost use Rattle.lists.specs.Over.{pad};
-ghost use Rattle.query.specs.Rule.{good_relations};
+ghost use Rattle.limits.specs.Schema.{widths_in};
 ghost use Rattle.refusals.specs.Refusals.{bad_relations};
 ghost use Rattle.format.specs.Bytes.{number};
-ghost use Rattle.format.specs.Format.{get_byte};
-ghost use Rattle.format.specs.Parts.{entry, entries, rows, query, relations, dependency, dependencies, join};
+ghost use Rattle.format.specs.Format.{get_byte, get_times, map_reading};
+ghost use Rattle.format.specs.Parts.{entry, rows, query, relations, dependency, dependencies, join};
 ghost use Rattle.format.specs.File.{complete, read_joins};
-ghost use Rattle.parsing.specs.internal.Read.{value_read, value_given, rows_read, query_read};
+ghost use Rattle.parsing.specs.internal.Read.{value_given, reading_of, read_into, relations_in, stored_rows};
 
+use limits::schema::Schema;
 use query::{
     Cell, Dependency, Entry, JoinDependency, NO_CELL, NO_DEPENDENCY, NO_JOIN_DEPENDENCY, Query,
 };
@@ -35,12 +36,13 @@ fn word32(s: &[u8], at: usize) -> u32
     u32::from_le_bytes([s[at], s[at + 1], s[at + 2], s[at + 3]])
 }
 
-// The byte at a position, if there is one and it is within limits.
-pub fn read_byte(s: &[u8], at: usize, low: u8, high: u8) -> Option<u8>
-    ensures { result ≡ value_read (get_byte (between low high) (drop at s.now)) }
+// A byte, if it is within limits.
+fn read_byte(s: &[u8], low: u8, high: u8) -> Option<(u8, &[u8])>
+    ensures { reading_of result ≡ get_byte (between low high) s.now }
 {
-    if at < s.len() && low <= s[at] && s[at] <= high {
-        Some(s[at])
+    let (byte, rest) = s.split_first()?;
+    if low <= *byte && *byte <= high {
+        Some((*byte, rest))
     } else {
         None
     }
@@ -48,104 +50,89 @@ pub fn read_byte(s: &[u8], at: usize, low: u8, high: u8) -> Option<u8>
 
 // ---- entries
 
-// The entry at a position: a byte (0 constant, 1 variable) and 32 bits.
-fn read_entry(s: &[u8], at: usize) -> Option<Cell>
-    ensures { result ≡ value_read (entry.get (drop at s.now)) }
+// An entry: a byte (0 constant, 1 variable) and 32 bits.
+fn read_entry(s: &[u8]) -> Option<(Cell, &[u8])>
+    ensures { reading_of result ≡ entry.get s.now }
 {
-    if s.len() < at || s.len() - at < 5 {
+    if s.len() < 5 {
         return None;
     }
-    let n = word32(s, at + 1);
-    match s[at] {
-        0 if n <= 2147483647 => Some(Cell {
-            entry: Entry::Constant(n),
-        }),
-        1 if n <= 95 => Some(Cell {
-            entry: Entry::Variable(n as u8),
-        }),
+    let n = word32(s, 1);
+    let rest = &s[5..];
+    match s[0] {
+        0 if n <= 2147483647 => Some((
+            Cell {
+                entry: Entry::Constant(n),
+            },
+            rest,
+        )),
+        1 if n <= 95 => Some((
+            Cell {
+                entry: Entry::Variable(n as u8),
+            },
+            rest,
+        )),
         _ => None,
     }
 }
 
-// The n entries from a position on, in 8 cells.
-// Kept as it is: i gives both the cell and the position that is read, and `?` leaves the loop, so that no slice is gone over for its own sake.
-fn read_entries(s: &[u8], at: usize, n: usize) -> Option<[Cell; 8]>
-    requires at_in_bounds { at ≤ length s.now }
-    requires n_bound { n ≤ 8 }
-    ensures { result ≡ value_read ((entries n).get (drop at s.now)) }
+// As many entries as there are cells, into them.
+fn read_entries<'a>(s: &'a [u8], cells: &mut [Cell]) -> Option<&'a [u8]>
+    ensures { read_into cells.new result ≡ get_times entry.get (length cells.old) s.now }
 {
-    let mut cells = [NO_CELL; 8];
-    for i in 0..n {
-        cells[i] = read_entry(s, at + 5 * i)?;
+    let mut rest = s;
+    for cell in cells.iter_mut() {
+        let (read, after) = read_entry(rest)?;
+        *cell = read;
+        rest = after;
     }
-    Some(cells)
+    Some(rest)
 }
 
 // ---- rows
 
-// The relations and cells of some rows, and whether the part ends with them.
+// The relations and cells of some rows.
 #[derive(Clone, Copy)]
-pub struct RowsRead {
-    pub whole: bool,
+pub struct StoredRows {
     pub relations: [u8; 12],
     pub cells: [Cell; 96],
 }
 
-// The rows from a position on: for each the relation byte and one entry a column, which are stored where they belong.
-fn read_rows(part: &[u8], start: usize, size: usize, count: u8, widths: [u8; 8]) -> Option<RowsRead>
-    requires widths_value { good_relations count widths ≡ true }
-    requires start_in_bounds { start ≤ length part.now }
-    requires size_bound { size ≤ 12 }
-    ensures { result ≡ rows_read ((rows 12 (take count widths) size).get (drop start part.now)) }
+// Rows: for each the relation byte and one entry a column, which are stored where they belong.
+// Kept as it is: r names both the relation's slot and the row's cells.
+fn read_rows(s: &[u8], size: usize, schema: Schema) -> Option<(StoredRows, &[u8])>
+    requires { size ≤ 12 }
+    ensures { reading_of result ≡ map_reading stored_rows ((rows 12 (widths_in schema) size).get s.now) }
 {
     let mut relations = [0; 12];
     let mut cells = [NO_CELL; 96];
-    let mut at = start;
+    let mut rest = s;
     for r in 0..size {
-        if part.len() <= at {
+        let (relation, entries) = rest.split_first()?;
+        let relation = *relation;
+        if schema.relations <= relation {
             return None;
         }
-        let relation = part[at];
-        if count <= relation {
-            return None;
-        }
-        let width = widths[relation as usize] as usize;
-        for i in 0..width {
-            cells[8 * r + i] = read_entry(part, at + 1 + 5 * i)?;
-        }
+        let width = schema.width_of(relation) as usize;
+        rest = read_entries(entries, &mut cells[8 * r..8 * r + width])?;
         relations[r] = relation;
-        at = at + 1 + 5 * width;
     }
-    Some(RowsRead {
-        whole: part.len() <= at,
-        relations,
-        cells,
-    })
+    Some((StoredRows { relations, cells }, rest))
 }
 
 // ---- query parts
 
-// A query, and whether the part ends with it.
-#[derive(Clone, Copy)]
-pub struct QueryRead {
-    pub whole: bool,
-    pub query: Query,
-}
-
-// The query at the start of a part: head length, row count, head entries, then rows.
-pub fn read_query(part: &[u8], count: u8, widths: [u8; 8]) -> Option<QueryRead>
-    requires { good_relations count widths ≡ true }
-    ensures { result ≡ query_read ((query (take count widths)).get part.now) }
+// A query: head length, row count, head entries, then rows.
+pub fn read_query(part: &[u8], schema: Schema) -> Option<(Query, &[u8])>
+    ensures { reading_of result ≡ (query (widths_in schema)).get part.now }
 {
-    let arity = read_byte(part, 0, 0, 8)?;
-    let size = read_byte(part, 1, 0, 12)?;
+    let (arity, rest) = read_byte(part, 0, 8)?;
+    let (size, rest) = read_byte(rest, 0, 12)?;
     let used = limits::head_in_use(arity, size);
-    let head = read_entries(part, 2, used)?;
-    let RowsRead {
-        whole,
-        relations,
-        cells,
-    } = read_rows(part, 2 + 5 * used, size as usize, count, widths)?;
+    let mut head = [NO_CELL; 8];
+    let rest = read_entries(rest, &mut head[..used])?;
+    let (rows, rest) = read_rows(rest, size as usize, schema)?;
+    let StoredRows { relations, cells } = rows;
     let query = Query {
         arity,
         size,
@@ -153,66 +140,64 @@ pub fn read_query(part: &[u8], count: u8, widths: [u8; 8]) -> Option<QueryRead>
         relations,
         cells,
     };
-    Some(QueryRead { whole, query })
+    Some((query, rest))
 }
 
 // ---- part 0: relations
 
-// Part 0: the count of relations, then a width byte each. A part that is too short or has a bad byte is told in the loop, one that is too long after it.
-pub fn read_relations(part: &[u8]) -> Option<(u8, [u8; 8])>
-    ensures { result ≡ value_given (complete bad_relations (relations.get part.now)) }
+// Part 0: the count of relations, then a width byte each, and no more.
+pub fn read_relations(part: &[u8]) -> Option<Schema>
+    ensures { relations_in result ≡ value_given (complete bad_relations (relations.get part.now)) }
 {
-    let count = read_byte(part, 0, 1, 8)?;
-    let n = count as usize;
-    let mut widths = [0; 8];
-    for i in 0..n {
-        widths[i] = read_byte(part, 1 + i, 1, 8)?;
-    }
-    if 1 + n < part.len() {
+    let (count, widths) = part.split_first()?;
+    if 8 < widths.len() || widths.len() != usize::from(*count) {
         return None;
     }
-    Some((count, widths))
+    Schema::new(*count, limits::padded_widths(widths))
 }
 
 // ---- part 1: functional dependencies
 
-// The functional dependency at a position: relation, left set and right column, a byte each.
-fn read_dependency(part: &[u8], at: usize, count: u8, widths: [u8; 8]) -> Option<Dependency>
-    requires { good_relations count widths ≡ true }
-    ensures { result ≡ value_read ((dependency (take count widths)).get (drop at part.now)) }
+// A functional dependency: relation, left set and right column, a byte each.
+fn read_dependency(s: &[u8], schema: Schema) -> Option<(Dependency, &[u8])>
+    ensures { reading_of result ≡ (dependency (widths_in schema)).get s.now }
 {
-    if part.len() < at || part.len() - at < 3 {
+    if s.len() < 3 {
         return None;
     }
     let d = Dependency {
-        relation: part[at],
-        left: part[at + 1],
-        right: part[at + 2],
+        relation: s[0],
+        left: s[1],
+        right: s[2],
     };
-    if limits::dependency_good(count, widths, d) {
-        Some(d)
+    if schema.dependency_good(d) {
+        Some((d, &s[3..]))
     } else {
         None
     }
 }
 
-// The front of part 1: the count of functional dependencies, then 3 bytes each.
-pub fn read_dependencies(part: &[u8], count: u8, widths: [u8; 8]) -> Option<(u8, [Dependency; 32])>
-    requires { good_relations count widths ≡ true }
-    ensures { result ≡ value_read ((dependencies (take count widths)).get part.now) }
+// The front of part 1: the count of functional dependencies, then each of them.
+// Kept as it is: i names the slot; to go over the first n slots instead takes a function of its own that they are lent to, as `read_entries` has.
+pub fn read_dependencies(part: &[u8], schema: Schema) -> Option<((u8, [Dependency; 32]), &[u8])>
+    ensures { reading_of result ≡ (dependencies (widths_in schema)).get part.now }
 {
-    let held = read_byte(part, 0, 0, 32)?;
-    let n = held as usize;
+    let (held, front) = read_byte(part, 0, 32)?;
     let mut dependencies = [NO_DEPENDENCY; 32];
+    let mut rest = front;
+    let n = held as usize;
     for i in 0..n {
-        dependencies[i] = read_dependency(part, 1 + 3 * i, count, widths)?;
+        let (d, after) = read_dependency(rest, schema)?;
+        dependencies[i] = d;
+        rest = after;
     }
-    Some((held, dependencies))
+    Some(((held, dependencies), rest))
 }
 
 // ---- part 1: join dependencies
 
 // At most 4 sets from a position on, and 0 for each that is not in use.
+// Kept as it is: `passes::bound_at` copies alike, but words, of which there are 8, and in a crate that has nothing to do with files.
 pub fn read_sets(part: &[u8], at: usize, n: usize) -> [u8; 4]
     requires { (n ≤ 4) × (at + n ≤ length part.now) }
     ensures { result ≡ pad 4 0 (take n (drop at part.now)) }
@@ -222,54 +207,51 @@ pub fn read_sets(part: &[u8], at: usize, n: usize) -> [u8; 4]
     sets
 }
 
-// The join dependency at a position: relation, number of sets, and the sets, a byte each.
-fn read_join(part: &[u8], at: usize, count: u8, widths: [u8; 8]) -> Option<JoinDependency>
-    requires widths_value { good_relations count widths ≡ true }
-    requires at_in_bounds { at ≤ length part.now }
-    ensures { result ≡ value_read ((join (take count widths)).get (drop at part.now)) }
+// A join dependency: relation, number of sets, and the sets, a byte each.
+fn read_join(s: &[u8], schema: Schema) -> Option<(JoinDependency, &[u8])>
+    ensures { reading_of result ≡ (join (widths_in schema)).get s.now }
 {
-    let left = part.len() - at;
-    if left < 2 {
+    if s.len() < 2 {
         return None;
     }
-    let n = part[at + 1];
+    let n = s[1];
     if 4 < n {
         return None;
     }
-    if left < 2 + n as usize {
+    if s.len() < 2 + n as usize {
         return None;
     }
-    let sets = read_sets(part, at + 2, n as usize);
+    let sets = read_sets(s, 2, n as usize);
     let j = JoinDependency {
-        relation: part[at],
+        relation: s[0],
         count: n,
         sets,
     };
-    if limits::join_good(count, widths, j) {
-        Some(j)
+    if schema.join_good(j) {
+        Some((j, &s[2 + n as usize..]))
     } else {
         None
     }
 }
 
 // What is left of part 1 after the functional dependencies: nothing, or the count of join dependencies and each of them.
-pub fn read_joins(part: &[u8], count: u8, widths: [u8; 8]) -> Option<(u8, [JoinDependency; 4])>
-    requires { good_relations count widths ≡ true }
-    ensures { result ≡ value_given (read_joins (take count widths) part.now) }
+// Kept as it is: i names the slot; to go over the first n slots instead takes a function of its own that they are lent to, as `read_entries` has.
+pub fn read_joins(part: &[u8], schema: Schema) -> Option<(u8, [JoinDependency; 4])>
+    ensures { result ≡ value_given (read_joins (widths_in schema) part.now) }
 {
     let mut joins = [NO_JOIN_DEPENDENCY; 4];
-    if part.len() == 0 {
+    if part.is_empty() {
         return Some((0, joins));
     }
-    let joined = read_byte(part, 0, 1, 4)?;
+    let (joined, front) = read_byte(part, 1, 4)?;
+    let mut rest = front;
     let n = joined as usize;
-    let mut at = 1;
     for i in 0..n {
-        let j = read_join(part, at, count, widths)?;
+        let (j, after) = read_join(rest, schema)?;
         joins[i] = j;
-        at = at + 2 + j.count as usize;
+        rest = after;
     }
-    if at < part.len() {
+    if !rest.is_empty() {
         return None;
     }
     Some((joined, joins))

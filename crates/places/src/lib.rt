@@ -2,16 +2,16 @@
 #![tactic(auto)]
 
 ghost use Rattle.std.specs.Prelude.{◌≡◌, true, ◌+◌, ◌-◌, ◌*◌, ◌≤◌, length, take, drop};
-ghost use Rattle.query.specs.Rule.{good_relations};
+ghost use Rattle.limits.specs.Schema.{widths_in};
 ghost use Rattle.refusals.specs.Refusal.{reply_of};
 ghost use Rattle.format.specs.Bytes.{number};
 ghost use Rattle.format.specs.File.{read_places, chained, stretch, stretches};
-ghost use Rattle.places.specs.internal.Read.{record_read};
+ghost use Rattle.places.specs.internal.Read.{all_places};
 
 use decoder::read_place;
+use limits::schema::Schema;
 use parsing::word16;
-use query::{Dependency, JoinDependency};
-use record::Record;
+use query::Place;
 use record::calls::no_place;
 use refusals::Refusal;
 
@@ -27,35 +27,17 @@ pub fn part(file: &[u8], k: usize) -> &[u8]
     &file[offset..end]
 }
 
-// The record of relations, dependencies and the query parts in file order: parts 2 to n - 1 fill places from 0.
-pub fn read_places(
-    file: &[u8],
-    n: usize,
-    count: u8,
-    widths: [u8; 8],
-    held: u8,
-    dependencies: [Dependency; 32],
-    joined: u8,
-    joins: [JoinDependency; 4],
-) -> Result<Record, Refusal>
-    requires widths_value { good_relations count widths ≡ true }
+// The places of the query parts in file order: parts 2 to n - 1 fill places from 0, and the others are vacant.
+// Kept as it is: k names the part, the place two before it, and which part is the last.
+pub fn read_places(file: &[u8], n: usize, schema: Schema) -> Result<[Place; 8], Refusal>
     requires le_n { (2 ≤ n) × (n ≤ 10) × (2 + 4 * n ≤ length file.now) }
     requires file_value { chained n (2 + 4 * n) (length file.now) (drop 2 file.now) ≡ true }
-    ensures { reply_of result ≡ record_read (count, widths) (held, dependencies) (joined, joins) (read_places (take count widths)
-        (stretches (n - 2) file.now (drop 10 file.now))) }
+    ensures { reply_of result ≡ all_places (read_places (widths_in schema) (stretches (n - 2) file.now (drop 10 file.now))) }
 {
     let blank = no_place();
     let mut places = [blank; 8];
     for k in 2..n {
-        places[k - 2] = read_place(part(file, k), k + 1 == n, count, widths)?;
+        places[k - 2] = read_place(part(file, k), k + 1 == n, schema)?;
     }
-    Ok(Record {
-        relations: count,
-        widths,
-        held,
-        dependencies,
-        joined,
-        joins,
-        places,
-    })
+    Ok(places)
 }

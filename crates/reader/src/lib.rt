@@ -17,6 +17,7 @@ use refusals::Refusal;
 // ---- the directory
 
 // Whether the pairs obey the offset rule: the first part starts where the pairs end, each next where the previous ends, and the last ends the file.
+// Kept as it is: k gives the places of a pair's two numbers, and the library names no list of items for chunks of four bytes that a proof could go by.
 fn chain(file: &[u8], n: usize) -> bool
     requires { (n ≤ 10) × (2 + 4 * n ≤ length file.now) }
     ensures { result ≡ chained n (2 + 4 * n) (length file.now) (drop 2 file.now) }
@@ -64,26 +65,21 @@ fn read_parts(file: &[u8], n: usize) -> Result<Record, Refusal>
     requires file_value { chained n (2 + 4 * n) (length file.now) (drop 2 file.now) ≡ true }
     ensures { reply_of result ≡ read_all (stretches n file.now (drop 2 file.now)) }
 {
-    let Some(relations) = read_relations(part(file, 0)) else {
-        return Err(Refusal::BadRelations);
-    };
-    let count = relations.0;
-    let widths = relations.1;
-    let second = part(file, 1);
-    let functional = read_dependencies(second, count, widths);
-    let Some(functional) = functional else {
-        return Err(Refusal::BadDependency);
-    };
-    let held = functional.0;
-    let dependencies = functional.1;
-    let from = 1 + 3 * held as usize;
-    let rest = read_joins(&second[from..], count, widths);
-    let Some(rest) = rest else {
-        return Err(Refusal::BadJoin);
-    };
-    let joined = rest.0;
-    let joins = rest.1;
-    read_places(file, n, count, widths, held, dependencies, joined, joins)
+    let schema = read_relations(part(file, 0)).ok_or(Refusal::BadRelations)?;
+    let functional = read_dependencies(part(file, 1), schema).ok_or(Refusal::BadDependency)?;
+    let ((held, dependencies), rest) = functional;
+    let (joined, joins) = read_joins(rest, schema).ok_or(Refusal::BadJoin)?;
+    let places = read_places(file, n, schema)?;
+    let widths = schema.widths;
+    Ok(Record {
+        relations: schema.relations,
+        widths,
+        held,
+        dependencies,
+        joined,
+        joins,
+        places,
+    })
 }
 
 // The record of a file, or the first fault.

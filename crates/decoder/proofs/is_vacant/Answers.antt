@@ -1,29 +1,18 @@
-use mathlib.Core.Path.{◌≡◌, refl}
-use mathlib.Core.Bool.{false}
+-- `is_vacant` meets its contract: a part is [255] exactly when it is a single byte, 255. Assumes nothing.
+use mathlib.Core.Path.{◌≡◌, refl, ap, ◌∙◌}
+use mathlib.Core.Bool.{and-true, and-false}
 use mathlib.Core.List.{List, [], ◌∷◌}
 use Prim.Native.Nat.{ℕ}
-use native.Mathlib.Omega.{arith}
 use lib.Dec.{eqb}
-use lib.ListN.{length, get_or}
+use lib.Pointwise.{pointwise}
 use Rattle.format.specs.File.{is_vacant}
 use Rattle.decoder.proofs.is_vacant.Goals as goal
 
-one_byte : (part : List ℕ) → length part ≡ 1 → eqb (get_or part 0 0) 255 ≡ is_vacant part
+same : (part : List ℕ) → pointwise eqb part (255 ∷ []) ≡ is_vacant part
 unfolding is_vacant
-one_byte [] l = absurd (omega arith)
-one_byte (b ∷ []) l = refl
-one_byte (b ∷ d ∷ part) l = absurd (omega arith)
-
-not-one : (part : List ℕ) → (length part ≡ 1 → ⊥) → false ≡ is_vacant part
-unfolding is_vacant
-not-one [] l = refl
-not-one (b ∷ []) l = absurd (l refl)
-not-one (b ∷ d ∷ part) l = refl
-
-pub returns-then-part-eq1 : goal.returns-then-part-eq1
-returns-then-part-eq1 c =
-    one_byte c.args.part.now c.if-part-eq1.true
+same [] = refl
+same (b ∷ []) = and-true (eqb b 255)
+same (b ∷ d ∷ part) = and-false (eqb b 255)
 
 pub returns : goal.returns
-returns c =
-    not-one c.args.part.now c.if-part-eq1.false
+returns c = c.eq.ensures ∙ ap (pointwise eqb c.args.part.now) c.as_slice.ensures ∙ same c.args.part.now

@@ -1,25 +1,24 @@
-use borrow.Author.Tests.{not-true, not-false, eqb-true}
+use borrow.Author.Tests.{eqb-true}
 use mathlib.Core.Path.{◌≡◌, sym, ap, refl, ◌∙◌}
 use mathlib.Core.Bool.{Bool, true, false, cond}
 use mathlib.Core.List.{List, [], ◌∷◌}
 use Prim.Native.Nat.{ℕ, ◌≤◌}
 use native.Mathlib.Omega.{arith}
 use lib.Dec.{eqb}
-use lib.ListN.{length, take}
+use lib.ListN.{length}
 use Rattle.refusals.specs.Refusals.{◌>>=◌, bad_query, gives, refused, unsafe_head}
-use Rattle.std.specs.Prelude.{None, Some}
 use Rattle.query.specs.Types.{Query}
 use Rattle.query.specs.Rule.{head_safe, no_place, place_with}
 use Rattle.query.proofs.Good as stored
 use Rattle.format.specs.Bytes.{Bytes}
-use Rattle.format.specs.Format.{Reading, none, got}
+use Rattle.format.specs.Format.{none, got}
 use Rattle.format.specs.Parts.{query}
 use Rattle.format.specs.File.{complete, is_vacant, safe_query, read_place}
 use Rattle.format.proofs.Bytes.{bytes-known}
 use Rattle.format.proofs.Parts.{Narrow, query-lawful}
 use Rattle.format.proofs.Rules.{good-query, good-narrow}
-use Rattle.parsing.specs.declared.QueryRead.{QueryRead}
-use Rattle.parsing.specs.internal.Read.{query_read}
+use Rattle.limits.specs.Schema.{widths_in}
+use Rattle.parsing.specs.internal.Read.{reading_of}
 use Rattle.decoder.proofs.read_place.Goals as goal
 
 -- ---- a query and the bytes after it
@@ -59,17 +58,6 @@ module _ (schema part : List ℕ) (last : Bool) where
       unfolding read_place ◌>>=◌ safe_query
       good-query-part t w h = rw (v, e, complete-whole q rest w, h)
 
--- ---- the query reader's answer
-query-bad : (o : Reading Query) → query_read o ≡ None → o ≡ none
-query-bad none e = refl
-query-bad (got q rest) e = let z : ◌≡◌ {A = ℕ} 0 1 = cc in absurd (omega arith)
-
-query-some : (o : Reading Query) (r : QueryRead) → query_read o ≡ Some r → (rest : List ℕ) × (o ≡ got r.query rest) × (r.whole ≡ eqb (length rest) 0)
-query-some none r e = let z : ◌≡◌ {A = ℕ} 0 1 = cc in absurd (omega arith)
-query-some (got q rest) r e =
-    let same : record { whole = eqb (length rest) 0; query = q } ≡ r = cc in
-    (rest, ap (λ (r : QueryRead). got r.query rest) same, ap (λ (r : QueryRead). r.whole) (sym same))
-
 -- a query that was read keeps the limits of its sizes
 read-sizes : (schema part : List ℕ) (q : Query) (rest : List ℕ) → Narrow schema → Bytes part → (query schema).get part ≡ got q rest
     → (q.arity ≤ 8) × (q.size ≤ 12)
@@ -80,60 +68,43 @@ read-sizes schema part q rest narrow hb e =
 
 pub returns-then-last : goal.returns-then-last
 returns-then-last c =
-    sym ((vacant-last (take c.args.count c.args.widths) c.args.part.now c.args.last
+    sym ((vacant-last (widths_in c.args.schema) c.args.part.now c.args.last
     (sym c.is_vacant.ensures ∙ c.if-is_vacant.true) c.if-last.true))
 
 pub returns-then-is_vacant : goal.returns-then-is_vacant
 returns-then-is_vacant c =
     ap gives c.no_place.ensures
-    ∙ sym ((vacant-place (take c.args.count c.args.widths) c.args.part.now c.args.last
+    ∙ sym ((vacant-place (widths_in c.args.schema) c.args.part.now c.args.last
     (sym c.is_vacant.ensures ∙ c.if-is_vacant.true) c.if-last.false))
 
 pub returns-in_default : goal.returns-in_default
 returns-in_default c =
-    let schema = take c.args.count c.args.widths in
-    let part = c.args.part.now in
-    let read = c.read_query in
     let v = sym c.is_vacant.ensures ∙ c.if-is_vacant.false in
-    sym ((bad-query schema part c.args.last v
-    (query-bad ((query schema).get part) (sym read.ensures ∙ c.in_default.is))))
+    sym (bad-query (widths_in c.args.schema) c.args.part.now c.args.last v (sym c.read_query.ensures ∙ ap reading_of c.in_default.is))
 
 pub head_safe-safe-requires : goal.head_safe-safe-requires
 head_safe-safe-requires c =
-    let schema = take c.args.count c.args.widths in
     let part = c.args.part.now in
-    let read = c.read_query in
-    let (rest, e, w) = query-some ((query schema).get part) c.in-Some.read (sym read.ensures ∙ c.in-Some.is) in
     let bytes = bytes-known part (λ i. (c.type_inv.part i).fits) in
-    let (arity, size) = read-sizes schema part c.in-Some.read.query rest (good-narrow c.args.count c.args.widths c.requires) bytes e in
-    (c.requires, arity, size)
+    read-sizes (widths_in c.args.schema) part c.in-Some.query c.in-Some.rest.now (good-narrow c.args.schema.relations c.args.schema.widths c.args.schema.good) bytes
+    (sym c.read_query.ensures ∙ ap reading_of c.in-Some.is)
 
-pub returns-then-not-read : goal.returns-then-not-read
-returns-then-not-read c =
-    let schema = take c.args.count c.args.widths in
-    let part = c.args.part.now in
-    let read = c.read_query in
-    let (rest, e, w) = query-some ((query schema).get part) c.in-Some.read (sym read.ensures ∙ c.in-Some.is) in
+pub returns-then-not-is_empty : goal.returns-then-not-is_empty
+returns-then-not-is_empty c =
     let v = sym c.is_vacant.ensures ∙ c.if-is_vacant.false in
-    sym ((long-query schema part c.args.last v c.in-Some.read.query rest e
-    (sym w ∙ not-true c.in-Some.read.whole c.if-not-read.true)))
+    sym (long-query (widths_in c.args.schema) c.args.part.now c.args.last v c.in-Some.query c.in-Some.rest.now
+    (sym c.read_query.ensures ∙ ap reading_of c.in-Some.is) (sym c.is_empty.ensures ∙ c.if-not-is_empty.true))
 
 pub returns-then-safe : goal.returns-then-safe
 returns-then-safe c =
-    let schema = take c.args.count c.args.widths in
-    let part = c.args.part.now in
-    let read = c.read_query in
-    let (rest, e, w) = query-some ((query schema).get part) c.in-Some.read (sym read.ensures ∙ c.in-Some.is) in
     let v = sym c.is_vacant.ensures ∙ c.if-is_vacant.false in
-    sym ((good-query-part schema part c.args.last v c.in-Some.read.query rest e true
-    (sym w ∙ not-false c.in-Some.read.whole c.if-not-read.false) (sym c.head_safe-safe.ensures ∙ c.if-safe.true)))
+    sym (good-query-part (widths_in c.args.schema) c.args.part.now c.args.last v c.in-Some.query c.in-Some.rest.now
+    (sym c.read_query.ensures ∙ ap reading_of c.in-Some.is) true (sym c.is_empty.ensures ∙ c.if-not-is_empty.false)
+    (sym c.head_safe-safe.ensures ∙ c.if-safe.true))
 
 pub returns : goal.returns
 returns c =
-    let schema = take c.args.count c.args.widths in
-    let part = c.args.part.now in
-    let read = c.read_query in
-    let (rest, e, w) = query-some ((query schema).get part) c.in-Some.read (sym read.ensures ∙ c.in-Some.is) in
     let v = sym c.is_vacant.ensures ∙ c.if-is_vacant.false in
-    sym ((good-query-part schema part c.args.last v c.in-Some.read.query rest e false
-    (sym w ∙ not-false c.in-Some.read.whole c.if-not-read.false) (sym c.head_safe-safe.ensures ∙ c.if-safe.false)))
+    sym (good-query-part (widths_in c.args.schema) c.args.part.now c.args.last v c.in-Some.query c.in-Some.rest.now
+    (sym c.read_query.ensures ∙ ap reading_of c.in-Some.is) false (sym c.is_empty.ensures ∙ c.if-not-is_empty.false)
+    (sym c.head_safe-safe.ensures ∙ c.if-safe.false))

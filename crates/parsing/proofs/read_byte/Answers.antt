@@ -1,21 +1,22 @@
 -- `read_byte` meets its contract. Assumes nothing.
-use Rattle.std.proofs.Common.{sym, ap}
+use Rattle.std.proofs.Common.{ap, ◌∙◌}
 use Rattle.lists.specs.Tests.{between}
-use Rattle.parsing.specs.internal.Read.{value_read}
-use Rattle.parsing.proofs.Positions.{within, below, above, byte_past, byte-bad, byte-good}
+use Rattle.parsing.specs.internal.Read.{reading_of}
+use Rattle.parsing.proofs.Positions.{within, below, above, no-byte, byte-bad, byte-good}
 use Rattle.parsing.proofs.read_byte.Goals as goal
-use Rattle.parsing.proofs.read_byte.Goals.{else-at-s-via-then-at-s+then-low-s+else-s-at, else-at-s-via-then-at-s+else-low-s, else-at-s-via-else-at-s}
+use Rattle.parsing.proofs.read_byte.Goals.{else-low-byte-via-then-low-byte+else-byte-high, else-low-byte-via-else-low-byte}
 
-pub returns-then-s-at : goal.returns-then-s-at
-returns-then-s-at c =
-    sym (ap value_read (byte-good (between c.args.low c.args.high) _ _ c.if-at-s.true (within _ _ _ c.if-low-s.true c.if-s-at.true)))
+pub returns-in_err-byte : goal.returns-in_err-byte
+returns-in_err-byte c = ap reading_of c.from_residual.ensures ∙ no-byte (between c.args.low c.args.high) c.args.s.now c.in_err-byte.ensures.cases
 
-pub returns-else-at-s : goal.returns-else-at-s
-returns-else-at-s c =
-    elim c.else-at-s.branch [
-      | else-at-s-via-then-at-s+then-low-s+else-s-at w ↦
-          sym (ap value_read (byte-bad (between c.args.low c.args.high) _ _ w.if-at-s.true (above _ _ _ w.if-s-at.false)))
-      | else-at-s-via-then-at-s+else-low-s w ↦
-          sym (ap value_read (byte-bad (between c.args.low c.args.high) _ _ w.if-at-s.true (below _ _ _ w.if-low-s.false)))
-      | else-at-s-via-else-at-s w ↦ sym (ap value_read (byte_past (between c.args.low c.args.high) _ _ w.if-at-s.false))
-    ]
+pub returns-then-byte-high : goal.returns-then-byte-high
+returns-then-byte-high c =
+    byte-good (between c.args.low c.args.high) _ _ _ c.in_ok-byte.ensures.cases.0 (within _ _ _ c.if-low-byte.true c.if-byte-high.true)
+
+pub returns-else-low-byte : goal.returns-else-low-byte
+returns-else-low-byte c =
+    byte-bad (between c.args.low c.args.high) _ _ _ c.in_ok-byte.ensures.cases.0
+    (elim c.else-low-byte.branch [
+      | else-low-byte-via-then-low-byte+else-byte-high w ↦ above _ _ _ w.if-byte-high.false
+      | else-low-byte-via-else-low-byte w ↦ below _ _ _ w.if-low-byte.false
+    ])

@@ -1,30 +1,18 @@
-use native.Mathlib.Omega.{arith}
-use lib.ListN.{take}
+-- `read_dependency` meets its contract. Assumes nothing.
+use Rattle.limits.specs.Schema.{widths_in}
+use Rattle.parsing.proofs.Values.{to_end}
 use Rattle.parsing.proofs.Dependencies.{dependency-short, found-dependency, bad-dependency}
-use Rattle.std.proofs.Common.{◌<◌, ◌-◌, length}
 use Rattle.parsing.proofs.read_dependency.Goals as goal
-use Rattle.parsing.proofs.read_dependency.Goals.{then-part-at-via-then-part-at, then-part-at-via-else-part-at+then-part-at-lt3}
 
-pub returns-then-part-at : goal.returns-then-part-at
-returns-then-part-at c =
-    let h : length c.args.part.now - c.args.at < 3 =
-    elim c.then-part-at.branch [
-      | then-part-at-via-then-part-at w ↦ omega (arith, w.if-part-at.true)
-      | then-part-at-via-else-part-at+then-part-at-lt3 w ↦ w.if-part-at-lt3.true
-    ]
-    in
-    dependency-short (take c.args.count c.args.widths) c.args.part.now c.args.at h
+pub returns-then-s-lt3 : goal.returns-then-s-lt3
+returns-then-s-lt3 c = dependency-short (widths_in c.args.schema) c.args.s.now c.if-s-lt3.true
 
 pub returns-then-dependency_good : goal.returns-then-dependency_good
 returns-then-dependency_good c =
-    let schema = take c.args.count c.args.widths in
-    let part = c.args.part.now in
-    let at = c.args.at in
-    found-dependency schema part at c.if-part-at-lt3.false c.dependency_good.result c.dependency_good.ensures c.if-dependency_good.true
+    found-dependency (widths_in c.args.schema) c.args.s.now c.if-s-lt3.false c.dependency_good.result c.dependency_good.ensures
+    c.if-dependency_good.true _ (to_end 3 c.args.s.now)
 
 pub returns-else-dependency_good : goal.returns-else-dependency_good
 returns-else-dependency_good c =
-    let schema = take c.args.count c.args.widths in
-    let part = c.args.part.now in
-    let at = c.args.at in
-    bad-dependency schema part at c.if-part-at-lt3.false c.dependency_good.result c.dependency_good.ensures c.if-dependency_good.false
+    bad-dependency (widths_in c.args.schema) c.args.s.now c.if-s-lt3.false c.dependency_good.result c.dependency_good.ensures
+    c.if-dependency_good.false

@@ -1,10 +1,11 @@
 use mathlib.Core.Path.{◌≡◌}
-use Prim.Native.Nat.{◌+◌, ◌*◌, ◌≤◌}
-use lib.ListN.{length, drop}
-use Rattle.format.specs.Parts.{entry, entries}
+use lib.ListN.{length}
+use Rattle.format.specs.Format.{get_times}
+use Rattle.format.specs.Parts.{entry}
 use Rattle.format.proofs.Filling.{Filling}
 use Rattle.parsing.proofs.read_entries.Given as goal
 
-abbrev pub invariant-loop-i : goal.invariant-loop-i
-invariant-loop-i l =
-    (l.i ≤ l.n) × (length l.cells ≡ 8) × Filling entry.get ((entries l.n).get (drop l.at l.s)) l.n l.cells l.i (drop (l.at + 5 * l.i) l.s)
+abbrev pub invariant-loop-cell : goal.invariant-loop-cell
+invariant-loop-cell l =
+    (length l.cells ≡ length l.initial.cells)
+    × Filling entry.get (get_times entry.get (length l.initial.cells) l.s) (length l.initial.cells) l.cells l.cell-index l.rest

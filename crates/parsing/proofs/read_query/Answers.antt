@@ -1,153 +1,105 @@
 -- `read_query` meets its contract. Assumes nothing.
-use borrow.Author.Tests.{leb-true}
-use mathlib.Core.Path.{◌≡◌, sym, ap, ◌∙◌}
-use mathlib.Core.Bool.{true, cond}
-use mathlib.Core.List.{List}
-use Prim.Native.Nat.{ℕ, ◌+◌, ◌*◌, ◌-◌, ◌≤◌}
-use native.Mathlib.Omega.{arith}
-use lib.Dec.{eqb, leb}
-use lib.ListN.{length, take, drop, length-drop}
-use lib.Seq.{drop-drop}
-use Rattle.std.proofs.Common.{None, Some}
+use Rattle.std.proofs.Common.{◌≡◌, ◌≤◌, ℕ, List, ◌++◌, length, drop, sym, ap, ◌∙◌}
+use mathlib.Core.Bool.{cond}
+use lib.Dec.{leb, eqb}
+use lib.ListN.{replicate}
+use lib.Seq.{length-take-le}
 use Rattle.query.specs.declared.Cell.{Cell}
-use Rattle.query.specs.Types.{Query}
-use Rattle.lists.specs.Tests.{between}
-use Rattle.format.specs.Format.{none, got, map_reading, get_byte}
-use Rattle.format.specs.Parts.{entries, rows, query_with, query}
+use Rattle.query.specs.Rule.{no_cell}
+use Rattle.lists.proofs.Over.{pad-is}
+use Rattle.format.specs.Format.{got, get_byte, get_times}
+use Rattle.format.specs.Parts.{entry, entries}
 use Rattle.format.proofs.Parts.{head_fits}
-use Rattle.parsing.specs.declared.RowsRead.{RowsRead}
-use Rattle.parsing.specs.internal.Read.{value_read, rows_read, query_read}
-use Rattle.parsing.proofs.Values.{value-none, value-got}
-use Rattle.parsing.proofs.Counted.{byte-read, no-low}
-use Rattle.parsing.proofs.RowLaws.{byte-bounds, entries-bounds}
-use Rattle.parsing.proofs.QueryLaws.{map-none, no-arity, no_size, no-head, after-head, rows-none, rows-some}
+use Rattle.limits.specs.Schema.{widths_in}
+use Rattle.parsing.specs.internal.Read.{reading_of, read_into}
+use Rattle.parsing.proofs.Counted.{no-low, byte-within}
+use Rattle.parsing.proofs.Times.{times-length}
+use Rattle.parsing.proofs.RowLaws.{entries-none, entries-got}
+use Rattle.parsing.proofs.QueryLaws.{no-arity, no_size, no-head, bad-rows, accepts}
 use Rattle.parsing.proofs.read_query.Goals as goal
+use Rattle.parsing.proofs.read_query.Goals.{In_ok-arity, In_ok-size, In_ok-rest, After-head_in_use-used, After-read_entries}
 
--- What the first two bytes say
-record Sizes (part : List ℕ) (arity size : ℕ) : Type 0 where
-  arity-read : get_byte (λ n. leb n 8) part ≡ got arity (drop 1 part)
-  size-read : get_byte (λ n. leb n 12) (drop 1 part) ≡ got size (drop 2 part)
-  arity-fits : arity ≤ 8
-  size_fits : size ≤ 12
-  long : 2 ≤ length part
+-- What has been read so far
+arity-read : (c : In_ok-arity) → get_byte (λ n. leb n 8) c.args.part.now ≡ got c.in_ok-arity.arity c.in_ok-arity.rest.now
+arity-read c = sym (no-low 8 c.args.part.now) ∙ sym c.read_byte.ensures ∙ ap reading_of c.in_ok-arity.was
 
-first : (part : List ℕ) (arity : ℕ) → Some arity ≡ value_read (get_byte (between 0 8) part)
-    → (leb arity 8 ≡ true) × (get_byte (λ n. leb n 8) part ≡ got arity (drop 1 part))
-first part arity e = byte-read (λ n. leb n 8) part 0 arity (rw no-low at e)
-
-sizes : (part : List ℕ) (arity size : ℕ) → Some arity ≡ value_read (get_byte (between 0 8) part)
-    → Some size ≡ value_read (get_byte (between 0 12) (drop 1 part)) → Sizes part arity size
-sizes part arity size e e' =
-    let (ta, ea) = first part arity e in
-    let (ts, es) = byte-read (λ n. leb n 12) part 1 size (rw no-low at e') in
-    let l : 1 ≤ length (drop 1 part) = (byte-bounds (λ n. leb n 12) (drop 1 part) size (drop 2 part) es).1 in
-    let m : length (drop 1 part) ≡ length part - 1 = length-drop 1 part in
-    record { arity-read = ea; size-read = es; arity-fits = leb-true arity 8 ta; size_fits = leb-true size 12 ts; long = omega arith }
-
-refuses : (schema part : List ℕ) → (query schema).get part ≡ none → None ≡ query_read ((query schema).get part)
-refuses schema part e = sym (ap query_read e)
-
--- where the head's entries end
-head-ends : (part : List ℕ) (arity size used : ℕ) (head : List Cell) → Sizes part arity size → used ≡ cond (eqb size 0) 0 arity
-    → Some head ≡ value_read ((entries used).get (drop 2 part))
-    → ((entries (cond (eqb size 0) 0 arity)).get (drop 2 part) ≡ got head (drop (2 + 5 * used) part)) × (2 + 5 * used ≤ length part)
-head-ends part arity size used head z eu ef =
-    let (rest, e) = value-got ((entries used).get (drop 2 part)) head ef in
-    let fits : used ≤ 8 = rw eu (head_fits size arity z.arity-fits) in
-    let (l, d, k) = entries-bounds used (drop 2 part) head rest fits e in
-    let m : length (drop 2 part) ≡ length part - 2 = length-drop 2 part in
-    let d' : rest ≡ drop (2 + 5 * used) part = sym d ∙ drop-drop (5 * used) 2 part in
-    (rw (← eu) (e ∙ ap (λ (t : List ℕ). got head t) d'), omega (arith, z.long))
-
-module _ (schema part : List ℕ) (arity size used : ℕ) (head : List Cell) (z : Sizes part arity size) (eu : used ≡ cond (eqb size 0) 0 arity)
-    (ef : Some head ≡ value_read ((entries used).get (drop 2 part)))
-  where
-    abbrev with_rows : List (ℕ × List Cell) → Query
-    with_rows all = query_with (arity, (size, (head, all)))
-
-    on-rows : (query schema).get part ≡ map_reading with_rows ((rows 12 schema size).get (drop (2 + 5 * used) part))
-    on-rows =
-        after-head schema part arity z.arity-read size z.size-read head (drop (2 + 5 * used) part)
-        (head-ends part arity size used head z eu ef).0
-
-    bad-rows : None ≡ rows_read ((rows 12 schema size).get (drop (2 + 5 * used) part)) → None ≡ query_read ((query schema).get part)
-    bad-rows b =
-        refuses schema part (on-rows ∙ map-none with_rows ((rows 12 schema size).get (drop (2 + 5 * used) part))
-        (rows-none ((rows 12 schema size).get (drop (2 + 5 * used) part)) b))
-
-    accepts : (rs : RowsRead) → Some rs ≡ rows_read ((rows 12 schema size).get (drop (2 + 5 * used) part))
-        → Some (record {
-          whole = rs.whole;
-          query = record { arity = arity; size = size; head = head; relations = rs.relations; cells = rs.cells };
-        })
-        ≡ query_read ((query schema).get part)
-    unfolding map_reading
-    accepts rs b =
-        let r = rows-some ((rows 12 schema size).get (drop (2 + 5 * used) part)) rs b in
-        let done : (query schema).get part ≡ got (with_rows r.all) r.rest = on-rows ∙ ap (map_reading with_rows) r.reading in
-        (λ i. Some (record {
-          whole = r.whole i;
-          query = record { arity = arity; size = size; head = head; relations = r.relations i; cells = r.cells i };
-        }))
-        ∙ sym (ap query_read done)
+size-read : (c : In_ok-size) → get_byte (λ n. leb n 12) c.in_ok-arity.rest.now ≡ got c.in_ok-size.size c.in_ok-size.rest.now
+size-read c = sym (no-low 12 c.in_ok-arity.rest.now) ∙ sym c.read_byte-2.ensures ∙ ap reading_of c.in_ok-size.was
 
 pub returns-in_err-arity : goal.returns-in_err-arity
 returns-in_err-arity c =
-    c.from_residual.ensures ∙ refuses (take c.args.count c.args.widths) c.args.part.now
-    (no-arity (take c.args.count c.args.widths) c.args.part.now
-    (value-none (get_byte (λ n. leb n 8) c.args.part.now)
-    (rw no-low at (sym c.in_err-arity.was ∙ c.read_byte.ensures))))
+    ap reading_of c.from_residual.ensures
+    ∙ sym (no-arity (widths_in c.args.schema) c.args.part.now
+    (sym (no-low 8 c.args.part.now) ∙ sym c.read_byte.ensures ∙ ap reading_of c.in_err-arity.was))
 
 pub returns-in_err-size : goal.returns-in_err-size
 returns-in_err-size c =
-    let (t, ea) = first c.args.part.now c.in_ok-arity.arity (sym c.in_ok-arity.was ∙ c.read_byte.ensures) in
-    c.from_residual-in_err-size.ensures ∙ refuses (take c.args.count c.args.widths) c.args.part.now
-    (no_size (take c.args.count c.args.widths) c.args.part.now c.in_ok-arity.arity ea
-    (value-none (get_byte (λ n. leb n 12) (drop 1 c.args.part.now))
-    (rw no-low at (sym c.in_err-size.was ∙ c.read_byte-2.ensures))))
+    ap reading_of c.from_residual-in_err-size.ensures
+    ∙ sym (no_size (widths_in c.args.schema) c.args.part.now c.in_ok-arity.arity c.in_ok-arity.rest.now
+    (arity-read (goal.at.returns-in_err-size c).In_ok-arity)
+    (sym (no-low 12 c.in_ok-arity.rest.now) ∙ sym c.read_byte-2.ensures ∙ ap reading_of c.in_err-size.was))
 
-pub read_entries-requires : goal.read_entries-requires
-read_entries-requires c =
-    let z =
-    sizes c.args.part.now c.in_ok-arity.arity c.in_ok-size.size (sym c.in_ok-arity.was ∙ c.read_byte.ensures)
-    (sym c.in_ok-size.was ∙ c.read_byte-2.ensures) in
-    record { at_in_bounds = z.long; n_bound = rw c.head_in_use-used.ensures (head_fits c.in_ok-size.size c.in_ok-arity.arity z.arity-fits) }
+used-narrow : (c : After-head_in_use-used) → c.head_in_use-used.result ≤ 8
+used-narrow c =
+    rw c.head_in_use-used.ensures
+    (head_fits c.in_ok-size.size c.in_ok-arity.arity
+    (byte-within 8 c.args.part.now c.in_ok-arity.arity c.in_ok-arity.rest.now (arity-read (goal.at.After-head_in_use-used c).In_ok-arity)))
 
-pub returns-in_err-head : goal.returns-in_err-head
-returns-in_err-head c =
-    let z =
-    sizes c.args.part.now c.in_ok-arity.arity c.in_ok-size.size (sym c.in_ok-arity.was ∙ c.read_byte.ensures)
-    (sym c.in_ok-size.was ∙ c.read_byte-2.ensures) in
-    let e = value-none ((entries c.head_in_use-used.result).get (drop 2 c.args.part.now)) (sym c.in_err-head.was ∙ c.read_entries.ensures) in
-    c.from_residual-in_err-head.ensures ∙ refuses (take c.args.count c.args.widths) c.args.part.now
-    (no-head (take c.args.count c.args.widths) c.args.part.now c.in_ok-arity.arity z.arity-read
-    c.in_ok-size.size z.size-read (rw (← c.head_in_use-used.ensures) e))
+entries-read : (c : After-read_entries)
+    → get_times entry.get c.head_in_use-used.result c.in_ok-size.rest.now ≡ read_into c.read_entries.new.cells c.read_entries.result
+entries-read c =
+    ap (λ (k : ℕ). get_times entry.get k c.in_ok-size.rest.now)
+    (sym (length-take-le c.head_in_use-used.result (replicate 8 no_cell) (used-narrow (goal.at.After-read_entries c).After-head_in_use-used)))
+    ∙ sym c.read_entries.ensures
+
+head-read : (c : In_ok-rest) → (entries (cond (eqb c.in_ok-size.size 0) 0 c.in_ok-arity.arity)).get c.in_ok-size.rest.now
+    ≡ got (c.read_entries.new.cells ++ drop c.head_in_use-used.result (replicate 8 no_cell)) c.in_ok-rest.rest.now
+head-read c =
+    let new = c.read_entries.new.cells in
+    let used = c.head_in_use-used.result in
+    let times : get_times entry.get used c.in_ok-size.rest.now ≡ got new c.in_ok-rest.rest.now =
+    entries-read (goal.at.In_ok-rest c).After-read_entries ∙ ap (read_into new) c.in_ok-rest.was in
+    let long : length new ≡ used = times-length entry.get used c.in_ok-size.rest.now new c.in_ok-rest.rest.now times in
+    rw (← c.head_in_use-used.ensures)
+    (entries-got used c.in_ok-size.rest.now new c.in_ok-rest.rest.now times
+    ∙ ap (λ (cs : List Cell). got cs c.in_ok-rest.rest.now)
+    (pad-is 8 no_cell new ∙ ap (λ (k : ℕ). new ++ drop k (replicate 8 no_cell)) long))
+
+pub slice_bounds-head-end : goal.slice_bounds-head-end
+slice_bounds-head-end c = used-narrow c
+
+pub slice_bounds-read_entries-end : goal.slice_bounds-read_entries-end
+slice_bounds-read_entries-end c =
+    sym (length-take-le c.head_in_use-used.result (replicate 8 no_cell)
+    (used-narrow (goal.at.slice_bounds-read_entries-end c).After-head_in_use-used))
+
+pub returns-in_err-rest : goal.returns-in_err-rest
+returns-in_err-rest c =
+    ap reading_of c.from_residual-in_err-rest.ensures
+    ∙ sym (no-head (widths_in c.args.schema) c.args.part.now c.in_ok-arity.arity c.in_ok-arity.rest.now
+    (arity-read (goal.at.returns-in_err-rest c).In_ok-arity) c.in_ok-size.size c.in_ok-size.rest.now
+    (size-read (goal.at.returns-in_err-rest c).In_ok-size)
+    (rw (← c.head_in_use-used.ensures)
+    (entries-none c.head_in_use-used.result c.in_ok-size.rest.now
+    (entries-read (goal.at.returns-in_err-rest c).After-read_entries ∙ ap (read_into c.read_entries.new.cells) c.in_err-rest.was))))
 
 pub read_rows-requires : goal.read_rows-requires
 read_rows-requires c =
-    let z =
-    sizes c.args.part.now c.in_ok-arity.arity c.in_ok-size.size (sym c.in_ok-arity.was ∙ c.read_byte.ensures)
-    (sym c.in_ok-size.was ∙ c.read_byte-2.ensures) in
-    let ends =
-    (head-ends c.args.part.now c.in_ok-arity.arity c.in_ok-size.size c.head_in_use-used.result
-    c.in_ok-head.head z c.head_in_use-used.ensures (sym c.in_ok-head.was ∙ c.read_entries.ensures)).1 in
-    record { widths_value = c.requires; start_in_bounds = ends; size_bound = z.size_fits }
+    byte-within 12 c.in_ok-arity.rest.now c.in_ok-size.size c.in_ok-size.rest.now (size-read (goal.at.read_rows-requires c).In_ok-size)
 
-pub returns-in_err-whole : goal.returns-in_err-whole
-returns-in_err-whole c =
-    let z =
-    sizes c.args.part.now c.in_ok-arity.arity c.in_ok-size.size (sym c.in_ok-arity.was ∙ c.read_byte.ensures)
-    (sym c.in_ok-size.was ∙ c.read_byte-2.ensures) in
-    c.from_residual-in_err-whole.ensures
-    ∙ bad-rows (take c.args.count c.args.widths) c.args.part.now c.in_ok-arity.arity c.in_ok-size.size
-    c.head_in_use-used.result c.in_ok-head.head z c.head_in_use-used.ensures (sym c.in_ok-head.was ∙ c.read_entries.ensures)
-    (sym c.in_err-whole.was ∙ c.read_rows.ensures)
+pub returns-in_err-rows : goal.returns-in_err-rows
+returns-in_err-rows c =
+    ap reading_of c.from_residual-in_err-rows.ensures
+    ∙ bad-rows (widths_in c.args.schema) c.args.part.now c.in_ok-arity.arity c.in_ok-arity.rest.now
+    (arity-read (goal.at.returns-in_err-rows c).In_ok-arity) c.in_ok-size.size c.in_ok-size.rest.now
+    (size-read (goal.at.returns-in_err-rows c).In_ok-size) _ c.in_ok-rest.rest.now
+    (head-read (goal.at.returns-in_err-rows c).In_ok-rest)
+    (ap reading_of (sym c.in_err-rows.was) ∙ c.read_rows.ensures)
 
 pub returns : goal.returns
 returns c =
-    let z =
-    sizes c.args.part.now c.in_ok-arity.arity c.in_ok-size.size (sym c.in_ok-arity.was ∙ c.read_byte.ensures)
-    (sym c.in_ok-size.was ∙ c.read_byte-2.ensures) in
-    accepts (take c.args.count c.args.widths) c.args.part.now c.in_ok-arity.arity c.in_ok-size.size
-    c.head_in_use-used.result c.in_ok-head.head z c.head_in_use-used.ensures (sym c.in_ok-head.was ∙ c.read_entries.ensures)
-    c.in_ok-whole.field-0 (sym c.in_ok-whole.was ∙ c.read_rows.ensures)
+    accepts (widths_in c.args.schema) c.args.part.now c.in_ok-arity.arity c.in_ok-arity.rest.now
+    (arity-read (goal.at.returns c).In_ok-arity) c.in_ok-size.size c.in_ok-size.rest.now
+    (size-read (goal.at.returns c).In_ok-size) _ c.in_ok-rest.rest.now
+    (head-read (goal.at.returns c).In_ok-rest)
+    c.in_ok-rows.rows c.in_ok-rows.rest.now (ap reading_of (sym c.in_ok-rows.was) ∙ c.read_rows.ensures)

@@ -1,172 +1,87 @@
--- `read_rows` reads the rows one after another, and the entries of each into their cells.
--- Assumes nothing.
-use mathlib.Core.Path.{◌≡◌, ◌∙◌}
-use Prim.Native.Nat.{◌+◌, ◌*◌, ◌≤◌}
-use native.Mathlib.Numerals.{add-one-dec}
-use native.Mathlib.Omega.{arith}
-use lib.ListN.{length, take, get_or}
-use Rattle.format.proofs.Rules.{good-narrow}
-use Rattle.query.proofs.Relations.{relations-bounds}
-use Rattle.parsing.proofs.RowLaws.{row-past, row-unknown}
-use Rattle.parsing.proofs.ReadingRows.{schema-length, begins, fails, accepted, known-row, row-begins, row-goes-on, row-stops}
-use Rattle.parsing.proofs.ReadingRows.{row_ends, next_fits, entry-fits, entries_fit, relation-fits, row_inside, cell-inside, cell-fits, offset-fits}
-use Rattle.parsing.proofs.ReadingRows.{row_fits, next-row-fits, next-entry-fits, short}
+-- `read_rows` reads the rows one after another, the entries of each into its cells. Assumes nothing.
+use Rattle.std.proofs.Common.{◌≡◌, ℕ, List, ◌≤◌, ◌+◌, ◌-◌, ◌*◌, length, take, drop, sym, ap, ◌∙◌, arith, rules}
+use lib.Seq.{length-take-le}
+use Rattle.query.specs.declared.Cell.{Cell}
+use Rattle.query.specs.Rule.{no_cell}
+use Rattle.query.proofs.Relations.{relations-bounds, width-le}
+use Rattle.lists.specs.Over.{pad}
+use Rattle.lists.proofs.Loops.{stretch-length}
+use Rattle.limits.specs.declared.schema.Schema.{Schema}
+use Rattle.limits.specs.Schema.{widths_in}
+use Rattle.format.specs.Format.{get_times}
+use Rattle.format.specs.Parts.{entry}
+use Rattle.parsing.specs.internal.Read.{reading_of, read_into}
+use Rattle.parsing.proofs.Times.{times-length}
+use Rattle.parsing.proofs.RowLaws.{no-row, row-unknown, row-bad, row-good, entries-none, entries-got}
+use Rattle.parsing.proofs.ReadingRows.{begins, fails, goes_on, accepted, put-cells}
 use Rattle.parsing.proofs.read_rows.Goals as goal
+use Rattle.parsing.proofs.read_rows.Goals.{After-width_of-width, After-read_entries}
+
+-- A schema has as many widths as relations
+widths-length : (s : Schema) → length s.widths ≡ 8 → length (widths_in s) ≡ s.relations
+widths-length s long = length-take-le s.relations s.widths (omega (arith, (relations-bounds s.relations s.widths s.good).1))
 
 pub loop-r-init : goal.loop-r-init
-loop-r-init c =
-    let a = c.args in
-    let S = take a.count a.widths in
-    let X = a.part.now in
-    begins S X a.start a.size c.requires.start_in_bounds
+loop-r-init c = begins (widths_in c.args.schema) c.args.s.now c.args.size
 
-pub returns-then-part-at : goal.returns-then-part-at
-returns-then-part-at c =
-    let a = c.args in
-    let S = take a.count a.widths in
-    let X = a.part.now in
-    let l = c.loop-r in
-    fails S X a.start a.size l.relations l.cells l.at l.r l.invariant c.loop-r-test.true
-    (row-past S X l.at c.if-part-at.true)
+pub returns-in_err-relation : goal.returns-in_err-relation
+returns-in_err-relation c =
+    ap reading_of c.from_residual.ensures
+    ∙ fails _ _ _ _ _ _ _ c.loop-r.invariant c.loop-r-test.true (sym (no-row (widths_in c.args.schema) c.loop-r.rest.now c.in_err-relation.ensures.cases))
 
-pub bounds-part-at : goal.bounds-part-at
-bounds-part-at c = c.if-part-at.false
+pub returns-then-schema-relation : goal.returns-then-schema-relation
+returns-then-schema-relation c =
+    fails _ _ _ _ _ _ _ c.loop-r.invariant c.loop-r-test.true
+    (sym (row-unknown (widths_in c.args.schema) c.loop-r.rest.now c.in_ok-relation.relation.now c.in_ok-relation.entries.now
+    c.in_ok-relation.ensures.cases.0
+    (omega (arith, widths-length c.args.schema (search rules), c.if-schema-relation.true))))
 
-pub returns-then-count-relation : goal.returns-then-count-relation
-returns-then-count-relation c =
-    let a = c.args in
-    let S = take a.count a.widths in
-    let X = a.part.now in
-    let l = c.loop-r in
-    let long : length a.widths ≡ 8 = c.well_formed.1.1.1.1.0.1.0.1 in
-    let unknown : length S ≤ get_or X l.at 0 = rw (schema-length a.count a.widths c.requires.widths_value long) c.if-count-relation.true in
-    fails S X a.start a.size l.relations l.cells l.at l.r l.invariant c.loop-r-test.true
-    (row-unknown S X l.at c.if-part-at.false unknown)
+narrow : (c : After-width_of-width) → c.width_of-width.result ≤ 8
+narrow c = omega (arith, c.width_of-width.ensures, width-le _ _ c.args.schema.good c.in_ok-relation.relation.now)
 
-pub overflow_cast-width : goal.overflow_cast-width
-overflow_cast-width c =
-    relation-fits (get_or c.args.part.now c.loop-r.at 0) c.args.count c.if-count-relation.false c.ranges.count
+part-length : (cells : List Cell) (at width : ℕ) → at + width ≤ length cells → length (take (at + width - at) (drop at cells)) ≡ width
+part-length cells at width h =
+    let n : at + width - at ≡ width = omega arith in
+    ap (λ (k : ℕ). length (take k (drop at cells))) n ∙ stretch-length at width cells h
 
-pub bounds-widths-relation : goal.bounds-widths-relation
-bounds-widths-relation c =
-    let a = c.args in
-    let S = take a.count a.widths in
-    let X = a.part.now in
-    let long : length a.widths ≡ 8 = c.well_formed.1.1.1.1.0.1.0.1 in
-    omega (arith, (relations-bounds a.count a.widths c.requires.widths_value).1)
+-- What was read of a row's entries
+entries-read : (c : After-read_entries)
+    → get_times entry.get c.width_of-width.result c.in_ok-relation.entries.now ≡ read_into c.read_entries.new.cells c.read_entries.result
+entries-read c =
+    let w = narrow (goal.at.After-read_entries c).After-width_of-width in
+    ap (λ (k : ℕ). get_times entry.get k c.in_ok-relation.entries.now)
+    (sym (part-length c.loop-r.cells (8 * c.loop-r.r) c.width_of-width.result (omega (arith, c.loop-r.invariant.cells-long))))
+    ∙ sym c.read_entries.ensures
 
-pub loop-i-init : goal.loop-i-init
-loop-i-init c =
-    let a = c.args in
-    let S = take a.count a.widths in
-    let X = a.part.now in
-    let l = c.loop-r in
-    let long : length a.widths ≡ 8 = c.well_formed.1.1.1.1.0.1.0.1 in
-    row-begins S X a.start a.size l.relations l.cells l.at l.r l.invariant (get_or a.widths (get_or X l.at 0) 0)
-    (known-row a.count a.widths X l.at c.requires.widths_value long c.if-part-at.false c.if-count-relation.false) (row_inside l.r a.size
-    c.loop-r-test.true c.requires.size_bound)
+pub slice_bounds-cells-end : goal.slice_bounds-cells-end
+slice_bounds-cells-end c = let w = narrow (goal.at.slice_bounds-cells-end c).After-width_of-width in omega (arith, c.loop-r.invariant.cells-long)
 
-pub overflow_add-at : goal.overflow_add-at
-overflow_add-at c =
-    next_fits c.loop-r.at (length c.args.part.now) c.if-part-at.false c.well_formed.0.1
-
-pub overflow_mul-i : goal.overflow_mul-i
-overflow_mul-i c = entries_fit c.loop-i.i (short c.loop-i.invariant)
-
-pub overflow_add-at-in-loop-i : goal.overflow_add-at-in-loop-i
-overflow_add-at-in-loop-i c =
-    entry-fits c.loop-r.at (length c.args.part.now) c.loop-i.i c.if-part-at.false c.well_formed.0.1
-    (short c.loop-i.invariant)
-
-pub overflow_mul-cells : goal.overflow_mul-cells
-overflow_mul-cells c =
-    row_fits c.loop-r.r c.args.size c.loop-r-test.true c.requires.size_bound
-
-pub overflow_add-cells : goal.overflow_add-cells
-overflow_add-cells c =
-    cell-fits (8 * c.loop-r.r + c.loop-i.i)
-    (cell-inside c.loop-r.r c.args.size c.loop-i.i _ c.loop-r-test.true c.requires.size_bound
-    c.loop-i-test.true c.loop-i.invariant.small)
-
-pub offset_bounds-cells-r : goal.offset_bounds-cells-r
-offset_bounds-cells-r c =
-    offset-fits (8 * c.loop-r.r + c.loop-i.i)
-    (cell-inside c.loop-r.r c.args.size c.loop-i.i _ c.loop-r-test.true c.requires.size_bound
-    c.loop-i-test.true c.loop-i.invariant.small)
-
-pub bounds-cells-r : goal.bounds-cells-r
-bounds-cells-r c =
-    cell-inside c.loop-r.r c.args.size c.loop-i.i _ c.loop-r-test.true c.requires.size_bound
-    c.loop-i-test.true c.loop-i.invariant.small
-
-pub returns-in_err-cells : goal.returns-in_err-cells
-returns-in_err-cells c =
-    let a = c.args in
-    let S = take a.count a.widths in
-    let X = a.part.now in
-    let l = c.loop-r in
-    let m = c.loop-i in
-    let o = c.read_entry in
-    c.from_residual.ensures ∙ fails S X a.start a.size l.relations l.cells l.at l.r l.invariant c.loop-r-test.true
-    (row-stops S X l.at l.r (get_or a.widths (get_or X l.at 0) 0) l.cells m.cells m.i m.invariant o.result o.ensures
-    c.in_err-cells.was c.loop-i-test.true)
-
-pub overflow_step-i : goal.overflow_step-i
-overflow_step-i c =
-    next-entry-fits c.loop-i.i _ c.loop-i-test.true c.loop-i.invariant.small
-
-pub loop-i-smaller : goal.loop-i-smaller
-loop-i-smaller c = add-one-dec _ c.loop-i.i c.loop-i-test.true
-
-pub loop-i-preserved : goal.loop-i-preserved
-loop-i-preserved c =
-    let a = c.args in
-    let S = take a.count a.widths in
-    let X = a.part.now in
-    let l = c.loop-r in
-    let m = c.loop-i in
-    let o = c.read_entry in
-    row-goes-on S X l.at l.r (get_or a.widths (get_or X l.at 0) 0) l.cells m.cells m.i m.invariant o.result o.ensures
-    c.in_ok-cells.field-0 c.in_ok-cells.was (row_inside l.r a.size c.loop-r-test.true c.requires.size_bound) l.invariant.cells-long
-    c.loop-i-test.true
-
-pub bounds-relations-r : goal.bounds-relations-r
-bounds-relations-r c =
-    row_inside c.loop-r.r c.args.size c.loop-r-test.true c.requires.size_bound
-
-pub overflow_add-at-in-loop-r : goal.overflow_add-at-in-loop-r
-overflow_add-at-in-loop-r c =
-    next_fits c.loop-r.at (length c.args.part.now) c.if-part-at.false c.well_formed.0.1
-
-pub overflow_mul-at : goal.overflow_mul-at
-overflow_mul-at c = entries_fit _ c.loop-i.invariant.small
-
-pub overflow_add-at-in-loop-r-2 : goal.overflow_add-at-in-loop-r-2
-overflow_add-at-in-loop-r-2 c =
-    entry-fits c.loop-r.at (length c.args.part.now) _ c.if-part-at.false c.well_formed.0.1 c.loop-i.invariant.small
-
-pub overflow_step-r : goal.overflow_step-r
-overflow_step-r c =
-    next-row-fits c.loop-r.r c.args.size c.loop-r-test.true c.requires.size_bound
-
-pub loop-r-smaller : goal.loop-r-smaller
-loop-r-smaller c =
-    add-one-dec c.args.size c.loop-r.r c.loop-r-test.true
+pub returns-in_err-rest : goal.returns-in_err-rest
+returns-in_err-rest c =
+    ap reading_of c.from_residual-in_err-rest.ensures
+    ∙ fails _ _ _ _ _ _ _ c.loop-r.invariant c.loop-r-test.true
+    (sym (row-bad (widths_in c.args.schema) c.loop-r.rest.now c.in_ok-relation.relation.now c.in_ok-relation.entries.now
+    c.in_ok-relation.ensures.cases.0
+    (omega (arith, widths-length c.args.schema (search rules), c.if-schema-relation.false))
+    (rw (← c.width_of-width.ensures)
+    (entries-none c.width_of-width.result c.in_ok-relation.entries.now
+    (entries-read (goal.at.returns-in_err-rest c).After-read_entries ∙ ap (read_into c.read_entries.new.cells) c.in_err-rest.was)))))
 
 pub loop-r-preserved : goal.loop-r-preserved
 loop-r-preserved c =
-    let a = c.args in
-    let S = take a.count a.widths in
-    let X = a.part.now in
-    let l = c.loop-r in
-    let m = c.loop-i in
-    row_ends S X a.start a.size l.relations l.cells m.cells l.at l.r (get_or a.widths (get_or X l.at 0) 0) m.i
-    (good-narrow a.count a.widths c.requires.widths_value) l.invariant m.invariant c.loop-r-test.true c.requires.size_bound c.loop-i-test.false
+    let w = narrow (goal.at.loop-r-preserved c).After-width_of-width in
+    let times = entries-read (goal.at.loop-r-preserved c).After-read_entries ∙ ap (read_into c.read_entries.new.cells) c.in_ok-rest.was in
+    let long : length c.read_entries.new.cells ≡ c.width_of-width.result =
+    times-length entry.get c.width_of-width.result c.in_ok-relation.entries.now c.read_entries.new.cells c.in_ok-rest.rest.now times in
+    goes_on _ _ _ _ _ _ _ c.loop-r.invariant c.in_ok-relation.relation.now c.read_entries.new.cells c.in_ok-rest.rest.now _
+    c.loop-r-test.true c.requires (omega arith)
+    (sym (row-good (widths_in c.args.schema) c.loop-r.rest.now c.in_ok-relation.relation.now c.in_ok-relation.entries.now
+    c.in_ok-relation.ensures.cases.0
+    (omega (arith, widths-length c.args.schema (search rules), c.if-schema-relation.false))
+    (pad 8 no_cell c.read_entries.new.cells) c.in_ok-rest.rest.now
+    (rw (← c.width_of-width.ensures)
+    (entries-got c.width_of-width.result c.in_ok-relation.entries.now c.read_entries.new.cells c.in_ok-rest.rest.now times))))
+    (put-cells c.loop-r.cells c.read_entries.new.cells (8 * c.loop-r.r) c.width_of-width.result long)
 
 pub returns : goal.returns
-returns c =
-    let a = c.args in
-    let S = take a.count a.widths in
-    let X = a.part.now in
-    let l = c.loop-r in
-    accepted S X a.start a.size l.relations l.cells l.at l.r l.invariant c.loop-r-test.false
+returns c = accepted _ _ _ _ _ _ _ c.loop-r.invariant c.loop-r-test.false

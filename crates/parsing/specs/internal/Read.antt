@@ -1,29 +1,33 @@
--- The answers of this crate's functions: the format's readings and results as options.
-use Rattle.std.specs.Prelude.{List, map, ℕ, eqb, length, Option, None, Some}
+-- The answers of this crate's functions as the format's readings, and its results as options.
+use Rattle.std.specs.Prelude.{List, map, ℕ, Option, None, Some}
+use denote.Ref.{Bor}
 use Rattle.query.specs.declared.Cell.{Cell}
-use Rattle.query.specs.Types.{Query}
+use Rattle.limits.specs.declared.schema.Schema.{Schema}
 use Rattle.format.specs.Format.{Reading, none, got}
 use Rattle.format.specs.Parts.{flat}
 use Rattle.refusals.specs.Refusals.{Reply, gives, refused}
-use Rattle.parsing.specs.declared.RowsRead.{RowsRead}
-use Rattle.parsing.specs.declared.QueryRead.{QueryRead}
-
--- The value that was read, if any
-abbrev pub value_read : {A : Type 0} → Reading A → Option A
-value_read none = None
-value_read (got a rest) = Some a
+use Rattle.parsing.specs.declared.StoredRows.{StoredRows}
 
 -- The value that a result gives, if any
 abbrev pub value_given : {A : Type 0} → Reply A → Option A
 value_given (gives a) = Some a
 value_given (refused n) = None
 
--- The rows that were read, and whether no byte is left
-abbrev pub rows_read : Reading (List (ℕ × List Cell)) → Option RowsRead
-rows_read none = None
-rows_read (got rs rest) = Some (record { whole = eqb (length rest) 0; relations = map (λ r. r.0) rs; cells = flat rs })
+-- The number of relations and their widths, if any
+abbrev pub relations_in : Option Schema → Option (ℕ × List ℕ)
+relations_in None = None
+relations_in (Some s) = Some (s.relations, s.widths)
 
--- The query that was read, and whether no byte is left
-abbrev pub query_read : Reading Query → Option QueryRead
-query_read none = None
-query_read (got q rest) = Some (record { whole = eqb (length rest) 0; query = q })
+-- What was read off the front of some bytes: the value, and the bytes after it
+abbrev pub reading_of : {A : Type 0} → Option (A × Bor (List ℕ)) → Reading A
+reading_of None = none
+reading_of (Some p) = got p.0 p.1.now
+
+-- What was read into some room, with the bytes after it
+abbrev pub read_into : {A : Type 0} → List A → Option (Bor (List ℕ)) → Reading (List A)
+read_into xs None = none
+read_into xs (Some rest) = got xs rest.now
+
+-- The relations and cells of some rows
+abbrev pub stored_rows : List (ℕ × List Cell) → StoredRows
+stored_rows rs = record { relations = map (λ r. r.0) rs; cells = flat rs }

@@ -1,8 +1,8 @@
 -- `read_record` meets its contract: the directory gives the parts, and these the record. Assumes nothing.
-use Rattle.std.proofs.Common.{◌≡◌, sym, ap, ◌∙◌, List, ℕ}
+use Rattle.std.proofs.Common.{sym, ap, ◌∙◌, List, ℕ}
 use Rattle.std.proofs.lemmas.Result.{err_from_is_err_and}
 use Rattle.refusals.specs.Refusals.{Reply, ◌>>=◌}
-use Rattle.refusals.specs.Refusal.{number_of, reply_of}
+use Rattle.refusals.specs.Refusal.{number_of}
 use Rattle.format.specs.File.{directory, read_all, read_file}
 use Rattle.reader.proofs.Directories.{accepts, refuses}
 use Rattle.reader.proofs.read_record.Goals as goal

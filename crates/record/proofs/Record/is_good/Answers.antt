@@ -38,7 +38,10 @@ pub returns-then-joins_good : goal.returns-then-joins_good
 returns-then-joins_good c =
     let fields = c.in-Some.ensures.fields in
     elim c.if-dependencies_good.branch [
-      | then-dependencies_good w ↦ c.places_good.ensures ∙ passes c.args.self c.in-Some.schema fields.0 fields.1 (cc) (cc)
+      | then-dependencies_good w ↦
+          c.places_good.ensures
+          ∙ passes c.args.self c.in-Some.schema fields.0 fields.1 (sym c.dependencies_good.ensures ∙ w.if-dependencies_good.true)
+          (sym w.joins_good.ensures ∙ sym w.value-is ∙ c.if-joins_good.true)
       | else-dependencies_good w ↦ cc
     ]
 
@@ -46,6 +49,11 @@ pub returns-else-joins_good : goal.returns-else-joins_good
 returns-else-joins_good c =
     let fields = c.in-Some.ensures.fields in
     elim c.if-dependencies_good.branch [
-      | then-dependencies_good w ↦ c.if-joins_good.false ∙ joins-fail c.args.self c.in-Some.schema fields.0 fields.1 (cc) (cc)
-      | else-dependencies_good w ↦ c.if-joins_good.false ∙ dependencies-fail c.args.self c.in-Some.schema fields.0 fields.1 (cc)
+      | then-dependencies_good w ↦
+          c.if-joins_good.false
+          ∙ joins-fail c.args.self c.in-Some.schema fields.0 fields.1 (sym c.dependencies_good.ensures ∙ w.if-dependencies_good.true)
+          (sym w.joins_good.ensures ∙ sym w.value-is ∙ c.if-joins_good.false)
+      | else-dependencies_good w ↦
+          c.if-joins_good.false
+          ∙ dependencies-fail c.args.self c.in-Some.schema fields.0 fields.1 (sym c.dependencies_good.ensures ∙ w.if-dependencies_good.false)
     ]
