@@ -7,7 +7,7 @@ use lib.ListN.{length, drop, replicate}
 use mathlib.Core.Bool.{Bool, true}
 use Rattle.std.specs.Prelude.{Option as Maybe, Result}
 use native.Mathlib.Omega.{arith}
-use Rattle.refusals.proofs.Refusals.{refused-gives, refusal-reply}
+use Rattle.refusals.proofs.Refusals.{refusal-reply}
 use Rattle.lists.specs.Tests.{every}
 use Rattle.lists.proofs.Tests.{every-replicate}
 use Rattle.refusals.specs.Refusals.{over_unless, Condition, order, follows, first_holding, Reply, refused, gives, reply, refusal_in}
