@@ -27,27 +27,11 @@ room before at cells buffer i h w = omega (arith, writing-room w no_cell h, leng
 pub loop-i-init : goal.loop-i-init
 loop-i-init c = begins c.args.buffer.now c.args.at c.args.cells.now c.requires
 
-pub overflow_mul-i : goal.overflow_mul-i
-overflow_mul-i c =
-    let r = room c.args.buffer.now c.args.at c.args.cells.now c.loop-i.buffer c.loop-i.i c.loop-i-test.true c.loop-i.invariant in
-    omega arith
-
-pub overflow_add-at : goal.overflow_add-at
-overflow_add-at c =
-    let r = room c.args.buffer.now c.args.at c.args.cells.now c.loop-i.buffer c.loop-i.i c.loop-i-test.true c.loop-i.invariant in
-    omega arith
-
-pub put_entry-requires : goal.put_entry-requires
-put_entry-requires c = room c.args.buffer.now c.args.at c.args.cells.now c.loop-i.buffer c.loop-i.i c.loop-i-test.true c.loop-i.invariant
-
 pub loop-i-preserved : goal.loop-i-preserved
 loop-i-preserved c =
     let i = c.loop-i.i in
     writing-turns c.loop-i.invariant no_cell c.put_entry.new.buffer (c.args.at + 5 * (i + 1)) c.loop-i-test.true c.put_entry.ensures
     (omega (arith, length-entry (get_or c.args.cells.now i no_cell).entry))
-
-pub shape_of-buffer : goal.shape_of-buffer
-shape_of-buffer c = c.loop-i.invariant.long
 
 pub returns : goal.returns
 unfolding entry
