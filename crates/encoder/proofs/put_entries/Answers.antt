@@ -1,7 +1,7 @@
 -- The bytes of each cell's entry
 use mathlib.Core.Path.{◌≡◌}
 use mathlib.Core.List.{List, flat_map}
-use Prim.Native.Nat.{ℕ, ◌+◌, ◌*◌, ◌≤◌, ◌<◌}
+use Prim.Native.Nat.{ℕ, ◌+◌, ◌*◌, ◌≤◌}
 use native.Mathlib.Nat.{add-zero}
 use native.Mathlib.Omega.{arith}
 use lib.ListN.{length, get_or}
@@ -9,7 +9,7 @@ use Rattle.query.specs.declared.Cell.{Cell}
 use Rattle.query.specs.Rule.{no_cell}
 use Rattle.format.specs.Parts.{put_entry, entry}
 use Rattle.format.proofs.Lengths.{length-flat_map, length-entry}
-use Rattle.encoder.proofs.Stores.{Writing, writing-starts, writing-room, writing-turns, writing-ends}
+use Rattle.encoder.proofs.Stores.{Writing, writing-starts, writing-turns, writing-ends}
 use Rattle.encoder.proofs.put_entries.Goals as goal
 
 abbrev put_cell : Cell → List ℕ
@@ -19,10 +19,6 @@ begins : (buffer : List ℕ) (at : ℕ) (cells : List Cell) → at + 5 * length 
 begins buffer at cells h =
     let e : length (flat_map put_cell cells) ≡ 5 * length cells = length-flat_map put_cell 5 (λ c. length-entry c.entry) cells in
     rw add-zero (writing-starts put_cell buffer at cells (omega arith))
-
-room : (before : List ℕ) (at : ℕ) (cells : List Cell) (buffer : List ℕ) (i : ℕ) → i < length cells
-    → Writing put_cell before at cells buffer (at + 5 * i) i → at + 5 * i + 5 ≤ length buffer
-room before at cells buffer i h w = omega (arith, writing-room w no_cell h, length-entry (get_or cells i no_cell).entry)
 
 pub loop-i-init : goal.loop-i-init
 loop-i-init c = begins c.args.buffer.now c.args.at c.args.cells.now c.requires

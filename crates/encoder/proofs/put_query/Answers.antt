@@ -70,9 +70,6 @@ module _ (schema buffer : List ℕ) (at : ℕ) (q : Query) (lh : length q.head �
   room-head : at + 2 + 5 * length (take used q.head) ≤ length (opened buffer at q)
   room-head = omega (arith, total, opened-long, head-taken)
 
-  used-inside : used ≡ length (take used q.head)
-  used-inside = sym head-taken
-
   module _ (second : List ℕ) (e₂ : second ≡ over (opened buffer at q) (at + 2) (head_bytes used q)) where
     second-long : length second ≡ length buffer
     second-long = ap length e₂ ∙ over-length (opened buffer at q) (head_bytes used q) (at + 2) (omega (arith, head-long, room-head, head-taken)) ∙ opened-long
@@ -118,19 +115,6 @@ rows_fit c =
     room-rows (widths_in c.args.schema) c.args.buffer.now c.args.at (as_query c.args.t) lh
     c.requires.arity_bound.0 c.requires.t_in_bounds c.head_in_use-used.result c.head_in_use-used.ensures c.put_entries.new.buffer
     c.put_entries.ensures
-
-rows_at : (c : goal.After-put_entries) → c.args.at + 2 + 5 * c.head_in_use-used.result < 2 ^ 63
-rows_at c =
-    let lh : length c.args.t.head ≡ 8 = search (mapped-length, rules) in
-    let short : length c.args.buffer.now < 2 ^ 63 = search rules in
-    omega (
-      arith,
-      rows_fit c,
-      second-long (widths_in c.args.schema) c.args.buffer.now c.args.at (as_query c.args.t)
-          lh c.requires.arity_bound.0 c.requires.t_in_bounds c.head_in_use-used.result c.head_in_use-used.ensures
-          c.put_entries.new.buffer c.put_entries.ensures,
-      short,
-    )
 
 -- ---- the needs
 pub bounds-buffer-at : goal.bounds-buffer-at
