@@ -1,7 +1,7 @@
 -- The bytes of each cell's entry
 use mathlib.Core.Path.{◌≡◌}
 use mathlib.Core.List.{List, flat_map}
-use Prim.Native.Nat.{ℕ, ◌+◌, ◌*◌, ◌≤◌, ◌<◌}
+use Prim.Native.Nat.{ℕ, ◌+◌, ◌*◌, ◌≤◌}
 use native.Mathlib.Nat.{add-zero}
 use native.Mathlib.Omega.{arith}
 use lib.ListN.{length, get_or}
@@ -9,7 +9,7 @@ use Rattle.query.specs.declared.Cell.{Cell}
 use Rattle.query.specs.Rule.{no_cell}
 use Rattle.format.specs.Parts.{put_entry, entry}
 use Rattle.format.proofs.Lengths.{length-flat_map, length-entry}
-use Rattle.encoder.proofs.Stores.{Writing, writing-starts, writing-room, writing-turns, writing-ends}
+use Rattle.encoder.proofs.Stores.{Writing, writing-starts, writing-turns, writing-ends}
 use Rattle.encoder.proofs.put_entries.Goals as goal
 
 abbrev put_cell : Cell → List ℕ
@@ -20,34 +20,14 @@ begins buffer at cells h =
     let e : length (flat_map put_cell cells) ≡ 5 * length cells = length-flat_map put_cell 5 (λ c. length-entry c.entry) cells in
     rw add-zero (writing-starts put_cell buffer at cells (omega arith))
 
-room : (before : List ℕ) (at : ℕ) (cells : List Cell) (buffer : List ℕ) (i : ℕ) → i < length cells
-    → Writing put_cell before at cells buffer (at + 5 * i) i → at + 5 * i + 5 ≤ length buffer
-room before at cells buffer i h w = omega (arith, writing-room w no_cell h, length-entry (get_or cells i no_cell).entry)
-
 pub loop-i-init : goal.loop-i-init
 loop-i-init c = begins c.args.buffer.now c.args.at c.args.cells.now c.requires
-
-pub overflow_mul-i : goal.overflow_mul-i
-overflow_mul-i c =
-    let r = room c.args.buffer.now c.args.at c.args.cells.now c.loop-i.buffer c.loop-i.i c.loop-i-test.true c.loop-i.invariant in
-    omega arith
-
-pub overflow_add-at : goal.overflow_add-at
-overflow_add-at c =
-    let r = room c.args.buffer.now c.args.at c.args.cells.now c.loop-i.buffer c.loop-i.i c.loop-i-test.true c.loop-i.invariant in
-    omega arith
-
-pub put_entry-requires : goal.put_entry-requires
-put_entry-requires c = room c.args.buffer.now c.args.at c.args.cells.now c.loop-i.buffer c.loop-i.i c.loop-i-test.true c.loop-i.invariant
 
 pub loop-i-preserved : goal.loop-i-preserved
 loop-i-preserved c =
     let i = c.loop-i.i in
     writing-turns c.loop-i.invariant no_cell c.put_entry.new.buffer (c.args.at + 5 * (i + 1)) c.loop-i-test.true c.put_entry.ensures
     (omega (arith, length-entry (get_or c.args.cells.now i no_cell).entry))
-
-pub shape_of-buffer : goal.shape_of-buffer
-shape_of-buffer c = c.loop-i.invariant.long
 
 pub returns : goal.returns
 unfolding entry

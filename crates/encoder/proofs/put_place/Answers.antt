@@ -35,21 +35,11 @@ put_query-requires c =
       t_in_bounds = rw (part (goal.at.put_query-requires c).After-from_query) at c.requires.place_in_bounds;
     }
 
-pub shape_of-buffer-then-place : goal.shape_of-buffer-then-place
-shape_of-buffer-then-place c =
-    c.put_query.auto.buffer
-
 pub returns-then-place : goal.returns-then-place
 returns-then-place c = rw (part (goal.at.returns-then-place c).After-from_query) c.put_query.ensures
 
 pub bounds-buffer-at : goal.bounds-buffer-at
 bounds-buffer-at c =
-    let e = vacant-part (widths_in c.args.schema) c.args.place c.if-place.false in
-    let room = rw e at c.requires.place_in_bounds in
-    omega arith
-
-pub overflow_add-result : goal.overflow_add-result
-overflow_add-result c =
     let e = vacant-part (widths_in c.args.schema) c.args.place c.if-place.false in
     let room = rw e at c.requires.place_in_bounds in
     omega arith

@@ -70,9 +70,6 @@ module _ (schema buffer : List ℕ) (at : ℕ) (q : Query) (lh : length q.head �
   room-head : at + 2 + 5 * length (take used q.head) ≤ length (opened buffer at q)
   room-head = omega (arith, total, opened-long, head-taken)
 
-  used-inside : used ≡ length (take used q.head)
-  used-inside = sym head-taken
-
   module _ (second : List ℕ) (e₂ : second ≡ over (opened buffer at q) (at + 2) (head_bytes used q)) where
     second-long : length second ≡ length buffer
     second-long = ap length e₂ ∙ over-length (opened buffer at q) (head_bytes used q) (at + 2) (omega (arith, head-long, room-head, head-taken)) ∙ opened-long
@@ -119,37 +116,12 @@ rows_fit c =
     c.requires.arity_bound.0 c.requires.t_in_bounds c.head_in_use-used.result c.head_in_use-used.ensures c.put_entries.new.buffer
     c.put_entries.ensures
 
-rows_at : (c : goal.After-put_entries) → c.args.at + 2 + 5 * c.head_in_use-used.result < 2 ^ 63
-rows_at c =
-    let lh : length c.args.t.head ≡ 8 = search (mapped-length, rules) in
-    let short : length c.args.buffer.now < 2 ^ 63 = search rules in
-    omega (
-      arith,
-      rows_fit c,
-      second-long (widths_in c.args.schema) c.args.buffer.now c.args.at (as_query c.args.t)
-          lh c.requires.arity_bound.0 c.requires.t_in_bounds c.head_in_use-used.result c.head_in_use-used.ensures
-          c.put_entries.new.buffer c.put_entries.ensures,
-      short,
-    )
-
 -- ---- the needs
 pub bounds-buffer-at : goal.bounds-buffer-at
 bounds-buffer-at c = omega (arith, two (goal.at.bounds-buffer-at c).Start)
 
-pub overflow_add-buffer : goal.overflow_add-buffer
-overflow_add-buffer c = omega (arith, two (goal.at.overflow_add-buffer c).Start, short (goal.at.overflow_add-buffer c).Start)
-
 pub bounds-buffer-at-2 : goal.bounds-buffer-at-2
 bounds-buffer-at-2 c = simp length-set (omega (arith, two (goal.at.bounds-buffer-at-2 c).Start))
-
-pub overflow_add-at : goal.overflow_add-at
-overflow_add-at c = omega (arith, two (goal.at.overflow_add-at c).Start, short (goal.at.overflow_add-at c).Start)
-
-pub slice_bounds-put_entries-end : goal.slice_bounds-put_entries-end
-slice_bounds-put_entries-end c =
-    let lh : length c.args.t.head ≡ 8 = search (mapped-length, rules) in
-    used-inside (widths_in c.args.schema) c.args.buffer.now c.args.at (as_query c.args.t) lh
-    c.requires.arity_bound.0 c.requires.t_in_bounds c.head_in_use-used.result c.head_in_use-used.ensures
 
 pub put_entries-requires : goal.put_entries-requires
 put_entries-requires c =
@@ -157,27 +129,12 @@ put_entries-requires c =
     room-head (widths_in c.args.schema) c.args.buffer.now c.args.at (as_query c.args.t)
     lh c.requires.arity_bound.0 c.requires.t_in_bounds c.head_in_use-used.result c.head_in_use-used.ensures
 
-pub overflow_add-at-2 : goal.overflow_add-at-2
-overflow_add-at-2 c = omega (arith, rows_at (goal.at.overflow_add-at-2 c).After-put_entries)
-
-pub overflow_mul-used : goal.overflow_mul-used
-overflow_mul-used c = omega (arith, used (goal.at.overflow_mul-used c).After-head_in_use-used)
-
-pub overflow_add-at-3 : goal.overflow_add-at-3
-overflow_add-at-3 c = omega (arith, rows_at (goal.at.overflow_add-at-3 c).After-put_entries)
-
 -- The rows are among the 24 that there is room for
 fits : (size : ℕ) (named : List ℕ) (cells : List Cell) → size ≤ 24 → length named ≡ 24 → length cells ≡ 192
     → (size ≡ length (take size named)) × (8 * length (take size named) ≤ length cells)
 fits size named cells few ln lc =
     let k : length (take size named) ≡ size = length-take-le size named (omega arith) in
     (sym k, omega arith)
-
-pub slice_bounds-put_rows-end : goal.slice_bounds-put_rows-end
-slice_bounds-put_rows-end c =
-    let ln : length c.args.t.relations ≡ 24 = search (mapped-length, rules) in
-    let lc : length c.args.t.cells ≡ 192 = search (mapped-length, rules) in
-    (fits c.args.t.size c.args.t.relations c.args.t.cells c.requires.arity_bound.1 ln lc).0
 
 pub put_rows-requires : goal.put_rows-requires
 put_rows-requires c =
@@ -187,14 +144,6 @@ put_rows-requires c =
       cells_long = (fits c.args.t.size c.args.t.relations c.args.t.cells c.requires.arity_bound.1 ln lc).1;
       rows_in_bounds = rows_fit (goal.at.put_rows-requires c).After-put_entries;
     }
-
-pub shape_of-buffer : goal.shape_of-buffer
-shape_of-buffer c =
-    let lh : length c.args.t.head ≡ 8 = search (mapped-length, rules) in
-    third-long (widths_in c.args.schema) c.args.buffer.now c.args.at (as_query c.args.t) lh
-    c.requires.arity_bound.0 c.requires.t_in_bounds c.head_in_use-used.result c.head_in_use-used.ensures
-    c.put_entries.new.buffer c.put_entries.ensures c.put_rows.new.buffer
-    c.put_rows.ensures.0
 
 pub returns : goal.returns
 returns c =

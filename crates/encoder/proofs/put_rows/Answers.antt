@@ -15,7 +15,7 @@ use Rattle.format.proofs.Rules.{length-chunk}
 use Rattle.format.proofs.Lengths.{length-flat_map}
 use Rattle.limits.specs.Schema.{widths_in}
 use Rattle.encoder.proofs.PlaceParts.{wide}
-use Rattle.encoder.proofs.Stores.{length-cell, Writing, writing-starts, writing-room, writing-turns, writing-ends}
+use Rattle.encoder.proofs.Stores.{length-cell, Writing, writing-room, writing-turns, writing-ends}
 use Rattle.encoder.proofs.put_rows.Goals as goal
 
 chunk-at : (named : List ℕ) (cells : List Cell) (r : ℕ) → r < length named → get_or (chunk named cells) r no_row ≡ (get_or named r 0, take 8 (drop (8 * r) cells))
@@ -74,11 +74,6 @@ module _ (schema before : List ℕ) (start : ℕ) (named : List ℕ) (cells : Li
       (en ∙ ap (λ (cs : List Cell). over buffer at (get_or named r 0 ∷ flat_map entry.put cs)) line-is ∙ ap (over buffer at) (sym bytes))
       (omega (arith, bytes-long, line-long))
 
-pub loop-r-init : goal.loop-r-init
-loop-r-init c =
-    writing-starts (row (widths_in c.args.schema)).put c.args.buffer.now c.args.start (chunk c.args.named.now c.args.cells.now)
-    c.requires.rows_in_bounds
-
 pub slice_bounds-put_row-end : goal.slice_bounds-put_row-end
 slice_bounds-put_row-end c = inside (widths_in c.args.schema) c.args.buffer.now c.args.start c.args.named.now c.args.cells.now
     c.loop-r.buffer c.loop-r.at c.loop-r.r c.loop-r-test.true c.requires.cells_long c.loop-r.invariant
@@ -95,9 +90,6 @@ loop-r-preserved c =
     c.loop-r.buffer c.loop-r.at c.loop-r.r c.loop-r-test.true c.requires.cells_long c.loop-r.invariant
     c.width_of-width.result c.width_of-width.ensures (wide c.args.schema (get_or c.args.named.now c.loop-r.r 0) c.width_of-width.result c.width_of-width.ensures)
     c.put_row-at.new.buffer c.put_row-at.result c.put_row-at.ensures.0 c.put_row-at.ensures.1
-
-pub shape_of-buffer : goal.shape_of-buffer
-shape_of-buffer c = c.loop-r.invariant.long
 
 pub returns : goal.returns
 returns c = writing-ends c.loop-r.invariant (rw (length-chunk c.args.named.now c.args.cells.now) c.loop-r-test.false)

@@ -19,22 +19,6 @@ used : (c : goal.After-head_in_use-used) → c.head_in_use-used.result ≤ 8
 used c =
     rw c.head_in_use-used.ensures (head_fits c.args.t.size c.args.t.arity c.requires.arity_bound.0)
 
-pub slice_bounds-rows_length-end : goal.slice_bounds-rows_length-end
-slice_bounds-rows_length-end c = omega (arith, (sized (goal.at.slice_bounds-rows_length-end c).Start).relations, c.requires.arity_bound.1)
-
-pub rows_length-rows-requires : goal.rows_length-rows-requires
-rows_length-rows-requires c =
-    record { few = omega (arith, length-take c.args.t.size c.args.t.relations, c.requires.arity_bound.1) }
-
-pub overflow_mul-result : goal.overflow_mul-result
-overflow_mul-result c = omega (arith, used (goal.at.overflow_mul-result c).After-head_in_use-used)
-
-pub overflow_add-result : goal.overflow_add-result
-overflow_add-result c = omega (arith, used (goal.at.overflow_add-result c).After-head_in_use-used)
-
-pub overflow_add-result-2 : goal.overflow_add-result-2
-overflow_add-result-2 c = omega (arith, used (goal.at.overflow_add-result-2 c).After-head_in_use-used, c.rows_length-rows.ensures.1, length-take c.args.t.size c.args.t.relations, c.requires.arity_bound.1)
-
 pub returns : goal.returns
 returns c =
     let schema = widths_in c.args.schema in

@@ -1,6 +1,5 @@
 -- The bytes of the rows so far, and of those that are left
 use Rattle.std.proofs.Common.{◌≡◌, ℕ, ◌+◌, ◌*◌, ◌≤◌, ◌<◌, List, length, drop, get_or, arith, add-one, drop-cons}
-use native.Mathlib.Nat.{zero-add}
 use lib.ListN.{drop_of_length-le}
 use Rattle.limits.specs.Schema.{widths_in}
 use Rattle.encoder.specs.internal.Lengths.{rows_length}
@@ -15,9 +14,6 @@ next schema named r h = rw (drop-cons named r 0 h, add-one)
 none_left : (schema named : List ℕ) (r : ℕ) → length named ≤ r → rows_length schema (drop r named) ≡ 0
 unfolding rows_length
 none_left schema named r h = rw (drop_of_length-le named {i = r} h)
-
-pub loop-relation-init : goal.loop-relation-init
-loop-relation-init c = (omega arith, rw zero-add)
 
 pub loop-relation-preserved : goal.loop-relation-preserved
 loop-relation-preserved c =
