@@ -5,6 +5,7 @@ ghost use Rattle.lists.specs.internal.Tells.{Tells};
 ghost use Rattle.candidates.specs.internal.Candidates.{Marks, Repeats, row_start, image_start, candidates_of, Laid, Together, Possible, IsDomain, IsTable};
 ghost use Rattle.candidates.specs.internal.Sharing.{Shares, IsPair, Keeps};
 
+// Kept as it is: that there are at most 12 rows is a fact about a number, as in `consistency`.
 use crate::agree::{agrees, fixes, same_row, shares};
 use crate::marks::{all_below, marks_where};
 

@@ -3,6 +3,7 @@
 //
 // There are at most 13 rows with at most 24 candidates each, by number. A mask has bit i for row or candidate i. Entry
 // (r * 24 + d) * 13 + q of a table is the mask of the candidates of row q that go together with candidate d of row r.
+// Kept as it is: that there are so few rows is a fact about a number, and a type of its own would be taken apart at each index.
 #![tactic(auto)]
 
 ghost use Rattle.std.specs.Prelude.{◌≡◌, IfSome, ◌<◌, ◌≤◌};

@@ -9,6 +9,7 @@ ghost use Rattle.join_lookup.specs.internal.Starts.{start_of, row_count, BeginsA
 ghost use Rattle.join_lookup.specs.internal.Tables.{bucket_of, Room, Tabled, Reaches, FirstWith};
 
 // The relation whose rows are in the tables, its width, and the number of buckets; 0 where there are no tables.
+// Kept as it is: that an index is one for some words, and that a row begins at a word, are facts of these words, which are lent at each call.
 #[derive(Clone, Copy)]
 pub struct Index {
     pub relation: u32,

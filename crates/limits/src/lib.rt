@@ -237,6 +237,7 @@ impl Schema {
 
     // Whether each row is good, row r having the 8 cells from 8 * r on.
     // Kept as it is: a chain would zip the relations with chunks_exact, and the library names no list of items for chunks that a proof could go by.
+    // That the cells are as many as 8 a row is a fact of two slices, which come from one array each.
     fn rows_good(self, named: &[u8], cells: &[Cell]) -> bool
         requires { 8 * length named.now ≤ length cells.now }
         ensures { result ≡ good_rows (widths_in self) named.now cells.now }

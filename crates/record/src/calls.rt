@@ -43,6 +43,7 @@ pub fn place_at(place: usize) -> Result<usize, Refusal>
 }
 
 // The query stored at a place.
+// Kept as it is: that a place is below 8 is a fact about a number, which the lookup tells; a type of its own would be taken apart at each index.
 pub fn stored(given: Record, place: usize) -> Query
     requires { place < 8 }
     ensures { result ≡ stored_at given place }

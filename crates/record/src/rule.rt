@@ -21,6 +21,7 @@ impl Record {
     }
 
     // The schema of a good record.
+    // Kept as it is: that a record is good is no fact of its type, since refusal 14 judges records that are not.
     pub fn schema(self) -> Schema
         requires { good_record self ≡ true }
         ensures relations { result.relations ≡ self.relations }
