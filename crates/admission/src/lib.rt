@@ -32,6 +32,7 @@ pub fn evaluable(given: Record, place: usize, words: &[u32]) -> Result<usize, Re
     if !given.is_good() {
         return Err(Refusal::BadRecord);
     }
+    // Kept as it is: a place lookup taken apart by `let .. else` is a form of the project's scope.
     let found = given.filled_place(place);
     let Ok(at) = found else {
         return found;

@@ -36,6 +36,7 @@ pub fn closed_columns(dependencies: &[Dependency], relation: u8, left: u8) -> u8
     ensures { result ≡ grow_mask (length dependencies.now) (map dependency_of dependencies.now) relation left }
 {
     let mut mask = left;
+    // Kept as it is: so many looks, of which no number is used.
     for _ in 0..dependencies.len() {
         mask = next_columns(dependencies, relation, mask);
     }

@@ -40,13 +40,7 @@ fn agree(marks: &[u64; 192], left: u8, i: usize, j: usize) -> bool
     requires { (i < 24) × (j < 24) }
     ensures { IsTrue result ↔ AgreeOn left marks.now i j }
 {
-    // Kept as it is: a column is a bit of the set and a cell of both rows, so that its number serves three reads.
-    for c in 0..8usize {
-        if (left >> c) % 2 == 1 && marks[8 * i + c] != marks[8 * j + c] {
-            return false;
-        }
-    }
-    true
+    (0..8usize).all(|c| (left >> c) % 2 == 0 || marks[8 * i + c] == marks[8 * j + c])
 }
 
 // Whether the rows at i and j break a dependency, of whose relation the first is: so is the second, they agree on every left column and differ on the right.

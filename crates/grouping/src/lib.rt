@@ -16,20 +16,22 @@ ghost use Rattle.words.specs.internal.Found.{Testable};
 ghost use Rattle.grouping.specs.internal.Chains.{Chained};
 ghost use Rattle.grouping.specs.internal.Leaders.{link_of, sought_of, BesideSays, with_leader};
 ghost use Rattle.grouping.specs.internal.Groups.{Key};
-ghost use Rattle.grouping.specs.internal.Walked.{Located, Walked, SkipsTo};
+ghost use Rattle.grouping.specs.internal.Walked.{Located, Walked, end_at, Ends};
 
 use query::Dependency;
 use words::Position;
 
-// Where a walk leads to: the row found that may be the first of a broken pair, and whether the left columns were seen to be a key.
+// How a walk over the rows ends: at what it looks for, or with nothing, after all rows, whose left columns may have been seen to be distinct, a key.
 #[derive(Clone, Copy)]
-pub struct Skipped {
-    pub row: Option<Position>,
-    pub key: bool,
+pub enum End<T> {
+    Found(T),
+    Nothing,
+    Distinct,
 }
 
 // What a walk knows: how many leaders are entered, the position of the first row known that may be the first of a broken pair, and whether every row of
 // the relation was entered.
+// Kept as it is: `key` is no flag of `least`, since with no row known the left columns may be a key or none.
 #[derive(Clone, Copy)]
 struct Walk {
     count: usize,
@@ -90,6 +92,7 @@ fn compare(sought: Sought, heads: &[u32], nodes: &[u32], count: usize) -> Beside
 {
     let bucket = sought.bucket;
     let mut node = heads[bucket] as usize;
+    // Kept as it is: a chain goes by its links, so that no iterator stands for it.
     while node != 0 {
         let s = 4 * (node - 1);
         if nodes[s + 3] == sought.tag {
@@ -179,6 +182,16 @@ fn locate(schema: &[u8], words: &[u32], number: usize) -> Option<Position>
     None
 }
 
+// The end at a row, if there is one.
+fn end_at(row: Option<Position>) -> End<Position>
+    ensures { result ≡ end_at row }
+{
+    match row {
+        Some(row) => End::Found(row),
+        None => End::Nothing,
+    }
+}
+
 // A row before which none is the first of a broken pair, if there is a broken pair. With room for all leaders it is, but for rows that share a bucket
 // and a tag by chance, the first row of the first broken pair, and a key is seen; without a bucket it is the first row.
 pub fn skip(
@@ -187,17 +200,13 @@ pub fn skip(
     d: Dependency,
     heads: &mut [u32],
     nodes: &mut [u32],
-) -> Skipped
+) -> End<Position>
     requires testable { Testable schema.now d }
     requires words_value { spells_rows schema.now words.now ≡ true }
-    ensures skips { SkipsTo schema.now words.now d result.row }
-    ensures key { result.key ≡ true → Key (dependency_of d) (database_of schema.now words.now) }
+    ensures { Ends schema.now words.now d result }
 {
     if heads.is_empty() {
-        return Skipped {
-            row: words::each_row(schema, words, words::FIRST).next(),
-            key: false,
-        };
+        return end_at(words::each_row(schema, words, words::FIRST).next());
     }
     // no more buckets than rows of the relation at most: few stay in the caches
     let rows = words.len() / (schema[d.relation as usize] as usize + 1) + 1;
@@ -212,10 +221,11 @@ pub fn skip(
     for row in words::each_row(schema, words, words::FIRST) {
         walk = step(schema, words, d, row, walk, used, nodes);
     }
-    let row = if walk.least == words.len() {
-        None
-    } else {
-        locate(schema, words, walk.least)
-    };
-    Skipped { row, key: walk.key }
+    if walk.key {
+        return End::Distinct;
+    }
+    if walk.least == words.len() {
+        return End::Nothing;
+    }
+    end_at(locate(schema, words, walk.least))
 }

@@ -25,15 +25,10 @@ pub fn has(words: &[u32], schema: &[u8], x: Index, at: usize, columns: u8, value
     ensures by_index_3 { (p : ℕ) → BeginsAt schema.now words.now at p → result ≡ false
         → Has schema.now words.now x columns values p → ⊥ }
 {
-    if words[at] != x.relation {
-        return false;
-    }
-    for c in 0..x.width {
-        if words::has_column(columns, c) && words::value(words, at, c) != values[c] {
-            return false;
-        }
-    }
-    true
+    words[at] == x.relation
+        && (0..x.width).all(|c| {
+            !words::has_column(columns, c) || words::value(words, at, c) == values[c]
+        })
 }
 
 // The bucket of some values in the columns of a set: their hash, spread by a factor, in proportion to the number of buckets; without a division.
@@ -42,6 +37,7 @@ pub fn bucket(columns: u8, values: [u32; 8], width: usize, buckets: usize) -> us
     ensures { (result ≡ bucket_of buckets columns (take width values)) × (result < buckets) }
 {
     let mut h: u64 = 0;
+    // Kept as it is: c is a bit of the set and a place in `values`.
     for c in 0..width {
         if words::has_column(columns, c) {
             h = (h * 2654435769 + values[c] as u64) % 4294967296;
@@ -111,6 +107,7 @@ pub fn find(
     ensures { FirstWith schema.now words.now x columns values result }
 {
     let mut at = start(words, schema, x, 0, columns, values, heads);
+    // Kept as it is: a chain goes by its links, so that no iterator stands for it.
     while at < words.len() {
         if has(words, schema, x, at, columns, values) {
             return at;
@@ -127,6 +124,7 @@ pub fn with_row(words: &[u32], x: Index, at: usize, set: u8, values: [u32; 8]) -
     ensures by_index_2 { (c : ℕ) → (set / 2 ^ c % 2 ≡ 1 → ⊥) → get_or result c 0 ≡ get_or values c 0 }
 {
     let mut row = values;
+    // Kept as it is: c is a bit of the set, a place in `row` and a column of the row at `at`.
     for c in 0..x.width {
         if words::has_column(set, c) {
             row[c] = words::value(words, at, c);

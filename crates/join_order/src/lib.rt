@@ -25,6 +25,7 @@ pub fn arrange(j: JoinDependency, first: usize, filled: u8) -> JoinDependency
 {
     let mut arranged = j;
     let mut known = filled;
+    // Kept as it is: the sets from i on are searched and set i is changed, so that i is no mere index.
     for i in first..j.count as usize {
         let l = closest(arranged, i, known);
         arranged.sets.swap(l, i);

@@ -1,9 +1,10 @@
 -- Laws of the search over codes: what is chosen, rows that need not be tried, and beginnings that lead nowhere. Assumes nothing.
 use mathlib.Core.Path.{◌≡◌, refl, sym, ◌∙◌, ap, subst}
 use mathlib.Core.Logic.{⊎_elim}
-use mathlib.Core.Bool.{true, false, cond}
+use mathlib.Core.Bool.{Bool, true, false, cond, ◌&&◌}
+use Rattle.std.specs.List.{list_all, range_with_len}
 use mathlib.Core.List.{List}
-use Prim.Native.Nat.{ℕ, ◌+◌, ◌*◌, ◌-◌, ◌/◌, ◌%◌, ◌≤◌, ◌<◌}
+use Prim.Native.Nat.{ℕ, zero, suc, ◌+◌, ◌*◌, ◌-◌, ◌/◌, ◌%◌, ◌≤◌, ◌<◌}
 use native.Mathlib.Decide.{ℕ_discrete}
 use native.Mathlib.Omega.{arith}
 use borrow.Author.Tests.{eq-eqb, ne_eqb, lt-ltb, le-ltb}
@@ -19,7 +20,7 @@ use Rattle.theory.specs.Query.{member}
 use Rattle.theory.proofs.Lists.{bool_cases}
 use Rattle.query.specs.View.{columns_from, columns_of}
 use Rattle.join_search.proofs.Turns.{member-here, member-later}
-use Rattle.join_search.specs.internal.Search.{free, goes_at, choose, some_goes, all_go}
+use Rattle.join_search.specs.internal.Search.{free, goes_at, choose}
 
 -- ---- whether a column goes
 
@@ -30,9 +31,6 @@ module _ (codes chosen : List ℕ) (i c : ℕ) where
   pub goes_same : get_or chosen c 0 ≡ get_or codes (8 * i + c) 0 → goes_at codes chosen i c ≡ true
   goes_same e =
       bool_cases (eqb (get_or chosen c 0) free) (λ p. rw p) (λ p. rw (p, eq-eqb _ _ e))
-
-  pub goes-not : (get_or chosen c 0 ≡ free → ⊥) → (get_or chosen c 0 ≡ get_or codes (8 * i + c) 0 → ⊥) → goes_at codes chosen i c ≡ false
-  goes-not chosen-here other = rw (ne_eqb _ _ chosen-here, ne_eqb _ _ other)
 
 -- ---- what is chosen, column by column
 
@@ -119,17 +117,10 @@ module _ (codes : List ℕ) (mask : ℕ) (chosen : List ℕ) (i : ℕ) where
 
 -- ---- the sets in turn
 
-module _ (codes relations : List ℕ) (size relation count : ℕ) (sets : List ℕ) (m : ℕ) (chosen : List ℕ) where
-  pub all_pass : m < count → count ≤ length sets → some_goes codes relations size relation (get_or sets m 0) chosen ≡ true
-      → all_go codes relations size relation (drop m (take count sets)) chosen ≡ all_go codes relations size relation (drop (m + 1) (take count sets)) chosen
-  unfolding every
-  all_pass h long passes = rw (left-cons count m sets 0 h long, passes)
-
-  pub all-fail : m < count → count ≤ length sets → some_goes codes relations size relation (get_or sets m 0) chosen ≡ false
-      → false ≡ all_go codes relations size relation (drop m (take count sets)) chosen
-  unfolding every
-  all-fail h long fails = rw (left-cons count m sets 0 h long, fails)
-
-  pub all_end : count ≤ m → true ≡ all_go codes relations size relation (drop m (take count sets)) chosen
-  unfolding every
-  all_end past = rw (left-none count m sets past)
+-- A test of each of n sets from set k on, by their positions, and of the sets that are left after the first k
+pub sets-all : (test : ℕ → Bool) (count : ℕ) (sets : List ℕ) (k n : ℕ) → n ≡ count - k → count ≤ length sets
+    → list_all (λ m. test (get_or sets m 0)) (range_with_len k n) ≡ every test (drop k (take count sets))
+unfolding every
+sets-all test count sets k zero e long = rw (left-none count k sets (omega arith))
+sets-all test count sets k (suc n) e long =
+    rw (left-cons count k sets 0 (omega arith) long) (ap (λ t. test (get_or sets k 0) && t) (sets-all test count sets (k + 1) n (omega arith) long))

@@ -1,13 +1,14 @@
 -- What a turn of a loop shows: over the columns of what is left of a set, and over numbers in order. Assumes nothing.
-use mathlib.Core.Path.{◌≡◌, refl, sym, ◌∙◌, ap}
-use mathlib.Core.Bool.{Bool, true, false, cond, ◌&&◌}
-use mathlib.Core.List.{◌∷◌}
+use mathlib.Core.Path.{◌≡◌, refl, sym, ◌∙◌, ap, ap₂}
+use mathlib.Core.Bool.{Bool, true, false, cond, ◌&&◌, ◌||◌}
+use mathlib.Core.List.{List, ◌∷◌}
+use Rattle.std.specs.List.{list_all, list_any, range_with_len}
 use mathlib.Core.Option.{Option, none, some, or_else}
 use Prim.Native.Nat.{ℕ, suc, ◌+◌, ◌-◌, ◌/◌, ◌%◌, ◌^◌, ◌≤◌, ◌<◌}
 use lib.Pow.{shr-shr}
 use native.Mathlib.Numerals.{add-one}
 use native.Mathlib.Omega.{arith}
-use borrow.Author.Tests.{eq-eqb, ne_eqb}
+use borrow.Author.Tests.{eqb-true, eqb-false, eq-eqb, ne_eqb}
 use lib.Dec.{eqb}
 use Rattle.lists.specs.Tests.{every}
 use Rattle.theory.specs.Query.{member, ◌∈◌}
@@ -17,36 +18,30 @@ use Rattle.join_search.specs.internal.Search.{first_of, some_of}
 
 -- ---- columns
 
--- Whether each column from c on of what is left of a set passes a test
-abbrev pub every_left : (ℕ → Bool) → ℕ → ℕ → Bool
-every_left test c rest = every test (columns_from c (8 - c) rest)
-
-module _ (test : ℕ → Bool) (c rest : ℕ) (h : c < 8) where
-  one_less : 8 - c ≡ suc (8 - (c + 1))
-  one_less = omega arith
-
-  pub columns-skip : (rest % 2 ≡ 1 → ⊥) → every_left test c rest ≡ every_left test (c + 1) (rest / 2)
-  unfolding columns_from
-  columns-skip out = rw (one_less, ne_eqb (rest % 2) 1 out, add-one)
-
-  pub columns-pass : rest % 2 ≡ 1 → test c ≡ true → every_left test c rest ≡ every_left test (c + 1) (rest / 2)
-  unfolding columns_from every
-  columns-pass within passes = rw (one_less, eq-eqb (rest % 2) 1 within, passes, add-one)
-
-  pub columns-fail : rest % 2 ≡ 1 → test c ≡ false → false ≡ every_left test c rest
-  unfolding columns_from every
-  columns-fail within fails = rw (one_less, eq-eqb (rest % 2) 1 within, fails)
-
-pub columns-end : (test : ℕ → Bool) (c rest : ℕ) → 8 ≤ c → true ≡ every_left test c rest
-unfolding columns_from every
-columns-end test c rest h = let none : 8 - c ≡ 0 = omega arith in rw none
-
 -- What is left of a set at the first column, and at the next one
 pub left-first : (set : ℕ) → set / 2 ^ 0 ≡ set
 left-first set = omega arith
 
 pub left_next : (set c : ℕ) → set / 2 ^ c / 2 ≡ set / 2 ^ (c + 1)
 left_next set c = shr-shr set c 1
+
+-- Where each of n columns from `start` on is not in a set or passes a test, each of the set's does
+pub columns_all : (test : ℕ → Bool) (set start n : ℕ)
+    → list_all (λ c. eqb (set / 2 ^ c % 2) 0 || test c) (range_with_len start n) ≡ every test (columns_from start n (set / 2 ^ start))
+unfolding columns_from every
+columns_all test set start Prim.Native.Nat.zero = refl
+columns_all test set start (suc n) =
+    ap (λ t. (eqb (set / 2 ^ start % 2) 0 || test start) && t)
+    (columns_all test set (start + 1) n ∙ ap₂ (λ c rest. every test (columns_from c n rest)) (add-one start) (sym (left_next set start)))
+    ∙ digit (set / 2 ^ start % 2) (omega arith) (columns_from (suc start) n (set / 2 ^ start / 2))
+  where
+    digit : (b : ℕ) → b < 2 → (cs : List ℕ) → (eqb b 0 || test start) && every test cs ≡ every test (cond (eqb b 1) (start ∷ cs) cs)
+    digit b less cs =
+        bool_cases (eqb b 1) (λ e. let one : b ≡ 1 = eqb-true b 1 e in rw (e, ne_eqb b 0 (λ none. absurd (omega (arith, none)))))
+        (λ e. let none : b ≡ 0 = omega (arith, eqb-false b 1 e) in rw (e, eq-eqb b 0 none))
+
+pub columns-all : (test : ℕ → Bool) (set : ℕ) → list_all (λ c. eqb (set / 2 ^ c % 2) 0 || test c) (range_with_len 0 8) ≡ every test (columns_from 0 8 set)
+columns-all test set = columns_all test set 0 8 ∙ ap (λ rest. every test (columns_from 0 8 rest)) (left-first set)
 
 -- The columns of n bits of a mask are the n from the start on
 pub columns-range : (start n mask : ℕ) {c : ℕ} → c ∈ columns_from start n mask → (start ≤ c) × (c < start + n)
@@ -60,6 +55,9 @@ columns-range start (suc n) mask {c} at = go (eqb (mask % 2) 1) at (columns-rang
     go false m rest = let h = rest m in (omega (arith, h.0), omega (arith, h.1))
 
 module _ (c rest : ℕ) (h : c < 8) where
+  one_less : 8 - c ≡ suc (8 - (c + 1))
+  one_less = omega arith
+
   -- Whether the next column is one of those left
   pub member-here : member c (columns_from c (8 - c) rest) ≡ eqb (rest % 2) 1
   unfolding columns_from member
@@ -67,7 +65,7 @@ module _ (c rest : ℕ) (h : c < 8) where
       let later : member c (columns_from (suc c) (8 - (c + 1)) (rest / 2)) ≡ false =
       not-mem-member c (columns_from (suc c) (8 - (c + 1)) (rest / 2))
       (λ at. let low = columns-range (suc c) (8 - (c + 1)) (rest / 2) at in absurd (omega (arith, low.0))) in
-      rw (one_less (λ _. true) c rest h)
+      rw one_less
       (bool_cases (eqb (rest % 2) 1) (λ e. rw (e, eq-eqb c c refl)) (λ e. rw (e, later)))
 
   -- and any later one
@@ -75,7 +73,7 @@ module _ (c rest : ℕ) (h : c < 8) where
   unfolding columns_from member
   member-later d past =
       let other : eqb d c ≡ false = ne_eqb d c (λ e. absurd (omega (arith, e))) in
-      rw (one_less (λ _. true) c rest h, add-one)
+      rw (one_less, add-one)
       (bool_cases (eqb (rest % 2) 1) (λ e. rw (e, other)) (λ e. rw e))
 
 -- ---- numbers
@@ -101,29 +99,12 @@ module _ {A : Type 0} (find : ℕ → Option A) (n i : ℕ) where
   unfolding first_of
   first-end h = let nothing : n - i ≡ 0 = omega arith in rw nothing
 
-module _ (test : ℕ → Bool) (n i : ℕ) where
-  pub some-here : i < n → some_of test i (n - i) ≡ cond (test i) true (some_of test (i + 1) (n - (i + 1)))
-  unfolding some_of
-  some-here h = let less : n - i ≡ suc (n - (i + 1)) = omega arith in rw (less, add-one)
-
-  pub some_next : i < n → test i ≡ false → some_of test i (n - i) ≡ some_of test (i + 1) (n - (i + 1))
-  some_next h fails = some-here h ∙ ap (λ b. cond b true (some_of test (i + 1) (n - (i + 1)))) fails
-
-  pub some-found : i < n → test i ≡ true → true ≡ some_of test i (n - i)
-  some-found h passes = sym (some-here h ∙ ap (λ b. cond b true (some_of test (i + 1) (n - (i + 1)))) passes)
-
-  pub some_end : n ≤ i → false ≡ some_of test i (n - i)
-  unfolding some_of
-  some_end h = let nothing : n - i ≡ 0 = omega arith in rw nothing
-
--- ---- a test of two parts, the first that two numbers are the same
-
-module _ (m n : ℕ) where
-  pub tested-true : (t p : Bool) → m ≡ n → t ≡ p → t ≡ true → eqb m n && p ≡ true
-  tested-true t p same is holds = rw (eq-eqb m n same, ← is, holds)
-
-  pub tested-false : (t p : Bool) → m ≡ n → t ≡ p → t ≡ false → eqb m n && p ≡ false
-  tested-false t p same is fails = rw (eq-eqb m n same, ← is, fails)
-
-  pub tested-other : (p : Bool) → (m ≡ n → ⊥) → eqb m n && p ≡ false
-  tested-other p other = rw (ne_eqb m n other)
+-- Whether some number of a range passes a test
+pub any-some : (test : ℕ → Bool) (start n : ℕ) → list_any test (range_with_len start n) ≡ some_of test start n
+unfolding some_of
+any-some test start Prim.Native.Nat.zero = refl
+any-some test start (suc n) = or-cond (test start) _ ∙ ap (cond (test start) true) (any-some test (start + 1) n ∙ ap (λ k. some_of test k n) (add-one start))
+  where
+    or-cond : (t u : Bool) → t || u ≡ cond t true u
+    or-cond true u = refl
+    or-cond false u = refl

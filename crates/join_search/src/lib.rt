@@ -1,6 +1,7 @@
 // The search for the row that a join dependency asks for (SPECIFICATION, The chase with join dependencies): over rows as codes of entries, 8 to a row, of which size are in use.
 // What is chosen so far is one code for each column, or `FREE` where no set has the column yet. A column that a row's relation does not have
 // stands in no set.
+// Kept as it is: `size` ends the rows of both arrays, and `firsts` looks at all 24 of each, so that no slice of one of them stands for it.
 #![tactic(auto)]
 
 ghost use Rattle.std.specs.Prelude.{◌≡◌, true, ◌+◌, ◌*◌, ◌≤◌, ◌<◌, take, drop};
@@ -10,6 +11,7 @@ ghost use Rattle.join_search.specs.internal.Search.{Spare, Extendable};
 use query::JoinDependency;
 
 // No entry has this code.
+// Kept as it is: a number among codes, so that a column takes one word and one comparison; an Option of a code would take two.
 pub const FREE: u32 = u32::MAX;
 
 // Whether two rows have the same codes in the columns of a set.
@@ -17,14 +19,7 @@ fn same_on(codes: &[u32; 192], set: u8, i: usize, e: usize) -> bool
     requires { (i < 24) × (e < 24) }
     ensures { result ≡ same_on codes.now set i e }
 {
-    for c in 0..8usize {
-        if (set >> c) % 2 == 1 {
-            if codes[8 * i + c] != codes[8 * e + c] {
-                return false;
-            }
-        }
-    }
-    true
+    (0..8usize).all(|c| (set >> c) % 2 == 0 || codes[8 * i + c] == codes[8 * e + c])
 }
 
 // Whether row i has what is chosen in the columns of a set.
@@ -32,16 +27,9 @@ fn goes(codes: &[u32; 192], set: u8, chosen: [u32; 8], i: usize) -> bool
     requires { i < 24 }
     ensures { result ≡ goes codes.now set chosen i }
 {
-    for c in 0..8usize {
-        if (set >> c) % 2 == 1 {
-            if chosen[c] != FREE {
-                if chosen[c] != codes[8 * i + c] {
-                    return false;
-                }
-            }
-        }
-    }
-    true
+    (0..8usize).all(|c| {
+        (set >> c) % 2 == 0 || chosen[c] == FREE || chosen[c] == codes[8 * i + c]
+    })
 }
 
 // What is chosen with the columns of a set from row i.
@@ -50,6 +38,7 @@ fn choose(codes: &[u32; 192], set: u8, chosen: [u32; 8], i: usize) -> [u32; 8]
     ensures { result ≡ choose codes.now set chosen i }
 {
     let mut next = chosen;
+    // Kept as it is: c is a bit of the set, a place in `next` and a place in row i.
     for c in 0..8usize {
         if (set >> c) % 2 == 1 {
             next[c] = codes[8 * i + c];
@@ -70,14 +59,7 @@ fn some_goes(
     requires { size ≤ 24 }
     ensures { result ≡ some_goes codes.now relations.now size relation set chosen }
 {
-    for i in 0..size {
-        if relations[i] == relation {
-            if goes(codes, set, chosen, i) {
-                return true;
-            }
-        }
-    }
-    false
+    (0..size).any(|i| relations[i] == relation && goes(codes, set, chosen, i))
 }
 
 // Whether each set from k on has a row that goes with what is chosen.
@@ -94,13 +76,7 @@ fn all_go(
 {
     let sets = j.sets;
     let count = j.count as usize;
-    // Kept as it is: `all` over the sets gets no generated proof, since its closure and the sets are borrowed for different lifetimes.
-    for m in k..count {
-        if !some_goes(codes, relations, size, j.relation, sets[m], chosen) {
-            return false;
-        }
-    }
-    true
+    (k..count).all(|m| some_goes(codes, relations, size, j.relation, sets[m], chosen))
 }
 
 // Whether row i is of the relation, and no earlier row of the relation has the same codes in the columns of a set.
@@ -108,17 +84,8 @@ pub fn is_first(codes: &[u32; 192], relations: &[u8; 24], relation: u8, set: u8,
     requires { i < 24 }
     ensures { result ≡ is_first codes.now relations.now relation set i }
 {
-    if relations[i] != relation {
-        return false;
-    }
-    for e in 0..i {
-        if relations[e] == relation {
-            if same_on(codes, set, i, e) {
-                return false;
-            }
-        }
-    }
-    true
+    relations[i] == relation
+        && !(0..i).any(|e| relations[e] == relation && same_on(codes, set, i, e))
 }
 
 // Which rows are to be tried for each set: at t whether row t % 24 is for set t / 24.
@@ -157,6 +124,7 @@ fn extend(
     let sets = j.sets;
     let set = sets[k];
     if all_go(codes, relations, size, j, k, chosen) {
+        // Kept as it is: a cycle of calls gets no proof where it goes through a closure, as `find_map` would have it.
         for i in 0..size {
             if tried[24 * k + i] {
                 if goes(codes, set, chosen, i) {

@@ -20,6 +20,7 @@ fn clear(heads: &mut [u32], t: usize, buckets: usize, end: u32)
     ensures by_index { (b : ℕ) → b < buckets → get_or heads.new (5 * b + t) 0 ≡ end }
     ensures by_index_2 { (b u : ℕ) → u < 5 → (u ≡ t → ⊥) → get_or heads.new (5 * b + u) 0 ≡ get_or heads.old (5 * b + u) 0 }
 {
+    // Kept as it is: a table's words stand 5 apart, and `step_by` and `take` over the rest of `heads` are no plainer.
     for b in 0..buckets {
         heads[5 * b + t] = end;
     }
@@ -32,6 +33,7 @@ fn thread(words: &[u32], schema: &[u8], nodes: &mut [u32])
     ensures nodes_len_unchanged { length nodes.new ≡ length nodes.old }
 {
     let mut rows = words::each_row(schema, words, words::FIRST);
+    // Kept as it is: where the next row begins is asked of the iterator, which a `for` would keep to itself.
     while let Some(row) = rows.next() {
         nodes[6 * (rows.place.at - 1)] = row.at as u32;
     }
@@ -94,6 +96,7 @@ fn enter(
 {
     clear(heads, t, x.buckets, words.len() as u32);
     let mut at = words.len();
+    // Kept as it is: from the last row to the first by the links, so that no iterator stands for it.
     while at != 0 {
         at = nodes[6 * (at - 1)] as usize;
         enter_row(words, schema, x, t, columns, set, at, heads, nodes);
@@ -140,6 +143,7 @@ fn fill(
     thread(words, schema, nodes);
     let count = j.count as usize;
     let mut filled: u8 = 0;
+    // Kept as it is: k is the table that is made as well as the set that it is made for.
     for k in 0..count {
         let set = j.sets[k];
         enter_set(words, schema, x, k, set, set & filled, heads, nodes);

@@ -4,8 +4,8 @@
 // through where sets that come later tie them together.
 #![tactic(auto)]
 
-ghost use Rattle.std.specs.Prelude.{◌≡◌, ℕ, ◌+◌, ◌≤◌, ◌<◌, get_or};
-ghost use Rattle.query.specs.View.{join_of, held_joins};
+ghost use Rattle.std.specs.Prelude.{◌≡◌, ℕ, ◌+◌, ◌≤◌, ◌<◌, length, map, get_or};
+ghost use Rattle.query.specs.View.{join_of};
 ghost use Rattle.query.specs.Rule.{no_join};
 ghost use Rattle.words.specs.Words.{database_of};
 ghost use Rattle.join_tables.specs.internal.Indexed.{filled_to, Searchable, Indexed};
@@ -16,40 +16,46 @@ use join_lookup::Index;
 use query::JoinDependency;
 use words::Violation;
 
-// The first choice of rows for the sets from set k on that goes with the values in the columns of the sets before, and yields a row that is not there: the
-// words at which its rows begin.
-fn search(
-    words: &[u32],
-    schema: &[u8],
+// What a search reads: the rows, the join dependency, and its tables.
+#[derive(Clone, Copy)]
+struct Tables<'a> {
+    words: &'a [u32],
+    schema: &'a [u8],
     j: JoinDependency,
     x: Index,
-    k: usize,
-    filled: u8,
-    values: [u32; 8],
-    heads: &[u32],
-    nodes: &[u32],
-) -> Option<[usize; 4]>
-    requires searchable { Searchable schema.now words.now j × Indexed schema.now words.now j x heads.now nodes.now }
-    requires k_le_count { (k ≤ j.count) × (filled ≡ filled_to j.sets k) }
-    ensures { Searched schema.now words.now j x k values result }
+    heads: &'a [u32],
+    nodes: &'a [u32],
+}
+
+// The first choice of rows for the sets from set k on that goes with the values in the columns of the sets before, and yields a row that is not there: the
+// words at which its rows begin.
+fn search(tables: &Tables, k: usize, filled: u8, values: [u32; 8]) -> Option<[usize; 4]>
+    requires searchable { Searchable tables.now.schema.now tables.now.words.now tables.now.j
+        × Indexed tables.now.schema.now tables.now.words.now tables.now.j tables.now.x tables.now.heads.now tables.now.nodes.now }
+    requires k_le_count { (k ≤ tables.now.j.count) × (filled ≡ filled_to tables.now.j.sets k) }
+    ensures { Searched tables.now.schema.now tables.now.words.now tables.now.j tables.now.x k values result }
 {
-    if k == j.count as usize {
-        let end = join_lookup::find(words, schema, x, filled, values, heads, nodes);
+    let words = tables.words;
+    let schema = tables.schema;
+    let x = tables.x;
+    if k == tables.j.count as usize {
+        let end = join_lookup::find(words, schema, x, filled, values, tables.heads, tables.nodes);
         return (end == words.len()).then_some([0; 4]);
     }
-    let set = j.sets[k];
+    let set = tables.j.sets[k];
     let shared = set & filled;
-    let mut at = join_lookup::start(words, schema, x, k + 1, shared, values, heads);
+    let mut at = join_lookup::start(words, schema, x, k + 1, shared, values, tables.heads);
+    // Kept as it is: a chain goes by its links, so that no iterator stands for it.
     while at < words.len() {
         if join_lookup::has(words, schema, x, at, shared, values) {
             let row = join_lookup::with_row(words, x, at, set, values);
-            let found = search(words, schema, j, x, k + 1, filled | set, row, heads, nodes);
+            let found = search(tables, k + 1, filled | set, row);
             if let Some(mut places) = found {
                 places[k] = at;
                 return Some(places);
             }
         }
-        at = join_lookup::following(words, schema, x, k + 1, at, nodes);
+        at = join_lookup::following(words, schema, x, k + 1, at, tables.nodes);
     }
     None
 }
@@ -73,11 +79,27 @@ fn choose(
     let set = j.sets[k];
     if j.count as usize <= k + 2 {
         let x = join_tables::build(words, schema, j, heads, nodes);
-        return search(words, schema, j, x, k, filled, values, heads, nodes);
+        let tables = Tables {
+            words,
+            schema,
+            j,
+            x,
+            heads,
+            nodes,
+        };
+        return search(&tables, k, filled, values);
     }
     let arranged = join_order::arrange(j, k + 1, filled | set);
     let x = join_tables::build(words, schema, arranged, heads, nodes);
-    let found = search(words, schema, arranged, x, k, filled, values, heads, nodes)?;
+    let tables = Tables {
+        words,
+        schema,
+        j: arranged,
+        x,
+        heads,
+        nodes,
+    };
+    let found = search(&tables, k, filled, values)?;
     let here = found[k];
     let row = join_lookup::with_row(words, x, here, set, values);
     let mut places = choose(words, schema, j, k + 1, filled | set, row, heads, nodes)?;
@@ -108,16 +130,15 @@ fn first_choice(
 pub fn first_unmet(
     schema: &[u8],
     words: &[u32],
-    joins: [JoinDependency; 4],
-    joined: usize,
+    joins: &[JoinDependency],
     heads: &mut [u32],
     nodes: &mut [u32],
 ) -> Option<Violation>
-    requires { (joined ≤ 4) × ((k : ℕ) → k < joined → Searchable schema.now words.now (get_or joins k no_join)) }
-    ensures { result ≡ unmet_of (first_unmet_from 0 schema.now (held_joins joins joined) (database_of schema.now words.now)) }
+    requires { (k : ℕ) → k < length joins.now → Searchable schema.now words.now (get_or joins.now k no_join) }
+    ensures { result ≡ unmet_of (first_unmet_from 0 schema.now (map join_of joins.now) (database_of schema.now words.now)) }
 {
-    for k in 0..joined {
-        let found = first_choice(words, schema, joins[k], heads, nodes);
+    for (k, &j) in joins.iter().enumerate() {
+        let found = first_choice(words, schema, j, heads, nodes);
         if let Some(rows) = found {
             return Some(Violation::Join {
                 dependency: k,

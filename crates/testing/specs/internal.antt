@@ -1,2 +1,3 @@
--- The keys that walks over the rows have seen.
+-- What walks over the rows have seen: keys, and how a walk ended.
 pub mod Keyed
+pub mod Tested

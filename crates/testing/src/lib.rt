@@ -3,7 +3,7 @@
 // The lent slices hold tables of `grouping`: the larger they are, the fewer walks. What they hold before does not matter.
 #![tactic(auto)]
 
-ghost use Rattle.std.specs.Prelude.{ℕ, ◌≡◌, true, ◌+◌, ◌≤◌, ◌<◌, map, take, get_or};
+ghost use Rattle.std.specs.Prelude.{ℕ, ◌≡◌, true, ◌+◌, ◌≤◌, ◌<◌, length, map, get_or};
 ghost use Rattle.query.specs.View.{dependency_of};
 ghost use Rattle.words.specs.Words.{spells_rows, database_of};
 ghost use Rattle.words.specs.Testing.{first_pair_from, first_broken_from};
@@ -13,16 +13,11 @@ ghost use Rattle.query.specs.Rule.{no_dependency};
 ghost use Rattle.theory.specs.Database.{Database};
 ghost use Rattle.grouping.specs.internal.Groups.{Key};
 ghost use Rattle.testing.specs.internal.Keyed.{KeyIn, Keyed};
+ghost use Rattle.testing.specs.internal.Tested.{Tested};
 
+use grouping::End;
 use query::Dependency;
 use words::{Position, Violation};
-
-// The first pair of rows that break a dependency, by their positions, and whether its left columns were seen to be a key of the rows.
-#[derive(Clone, Copy)]
-struct Tested {
-    pair: Option<(usize, usize)>,
-    key: bool,
-}
 
 // Whether the left columns of a dependency contain those of one that was seen to be a key.
 fn contains_key(seen: Option<Dependency>, d: Dependency) -> bool
@@ -41,28 +36,32 @@ fn has_key(keys: &[Option<Dependency>], d: Dependency) -> bool
     keys.iter().any(|seen| contains_key(*seen, d))
 }
 
-// The first pair of rows that break the dependency. A key is seen only by a walk over all rows.
+// The first pair of rows that break the dependency, by their positions. That the left columns are distinct is seen only by a walk over all rows.
 fn first_pair(
     schema: &[u8],
     words: &[u32],
     d: Dependency,
     heads: &mut [u32],
     nodes: &mut [u32],
-) -> Tested
+) -> End<(usize, usize)>
     requires testable { Testable schema.now d }
     requires words_value { spells_rows schema.now words.now ≡ true }
-    ensures pair_value { result.pair ≡ pair_of (first_pair_from (dependency_of d) 0 (database_of schema.now words.now)) }
-    ensures key { result.key ≡ true → Key (dependency_of d) (database_of schema.now words.now) }
+    ensures { Tested (dependency_of d) (database_of schema.now words.now) result }
 {
     let relation = d.relation as u32;
     let mut place = words::FIRST;
+    // Kept as it is: a skip may pass many rows, and the next search is of the words from there on.
     while place.at < words.len() {
-        let skipped = grouping::skip(schema, &words[place.at..], d, heads, nodes);
-        let Some(row) = skipped.row else {
-            return Tested {
-                pair: None,
-                key: place.at == 0 && skipped.key,
-            };
+        let row = match grouping::skip(schema, &words[place.at..], d, heads, nodes) {
+            End::Found(row) => row,
+            End::Nothing => return End::Nothing,
+            End::Distinct => {
+                return if place.at == 0 {
+                    End::Distinct
+                } else {
+                    End::Nothing
+                };
+            }
         };
         let first = Position {
             at: place.at + row.at,
@@ -74,53 +73,45 @@ fn first_pair(
         };
         if words[first.at] == relation {
             if let Some(second) = words::first_partner(schema, words, d, first.at, after) {
-                return Tested {
-                    pair: Some((first.number, second)),
-                    key: false,
-                };
+                return End::Found((first.number, second));
             }
         }
         place = after;
     }
-    Tested {
-        pair: None,
-        key: false,
-    }
+    End::Nothing
 }
 
 // The first of the held dependencies that the rows break, with its first pair of rows.
 pub fn first_violation(
     schema: &[u8],
     words: &[u32],
-    dependencies: [Dependency; 32],
-    held: usize,
+    dependencies: &[Dependency],
     heads: &mut [u32],
     nodes: &mut [u32],
 ) -> Option<Violation>
-    requires held_bound { held ≤ 32 }
-    requires by_index { (k : ℕ) → k < held → Testable schema.now (get_or dependencies k no_dependency) }
+    requires held_bound { length dependencies.now ≤ 32 }
+    requires by_index { (k : ℕ) → k < length dependencies.now → Testable schema.now (get_or dependencies.now k no_dependency) }
     requires words_value { spells_rows schema.now words.now ≡ true }
-    ensures { result ≡ violation_of (first_broken_from 0 (map dependency_of (take held dependencies)) (database_of schema.now words.now)) }
+    ensures { result ≡ violation_of (first_broken_from 0 (map dependency_of dependencies.now) (database_of schema.now words.now)) }
 {
     // few rows need few buckets, which are cleared for each dependency
     let buckets = heads.len().min(words.len());
     let used = &mut heads[..buckets];
     let mut keys: [Option<Dependency>; 32] = [None; 32];
-    for k in 0..held {
-        let d = dependencies[k];
+    for (k, &d) in dependencies.iter().enumerate() {
         if has_key(&keys, d) {
             continue;
         }
-        let tested = first_pair(schema, words, d, used, nodes);
-        if let Some((first, second)) = tested.pair {
-            return Some(Violation::Functional {
-                dependency: k,
-                first,
-                second,
-            });
-        }
-        if tested.key {
-            keys[k] = Some(d);
+        match first_pair(schema, words, d, used, nodes) {
+            End::Found((first, second)) => {
+                return Some(Violation::Functional {
+                    dependency: k,
+                    first,
+                    second,
+                });
+            }
+            End::Nothing => {}
+            End::Distinct => keys[k] = Some(d),
         }
     }
     None

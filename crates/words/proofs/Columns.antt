@@ -1,15 +1,16 @@
 -- Two rows of words, column by column: the left set of a dependency is taken from its mask bit by bit. Assumes nothing.
 use mathlib.Core.Path.{◌≡◌, refl, ap, sym, ◌∙◌}
-use mathlib.Core.Bool.{Bool, true, false, not, ◌&&◌, false≢true}
+use mathlib.Core.Bool.{Bool, true, false, not, ◌&&◌, ◌||◌, false≢true}
 use mathlib.Core.List.{List, ◌∷◌}
 use Prim.Native.Nat.{ℕ, zero, suc, ◌+◌, ◌-◌, ◌/◌, ◌%◌, ◌^◌, ◌≤◌, ◌<◌}
 use native.Mathlib.Nat.{div-lt_iff_lt-mul, div-div-eq-div-mul, pow-suc}
 use native.Mathlib.Numerals.{add-one}
 use native.Mathlib.Omega.{arith}
 use lib.Dec.{eqb}
-use borrow.Author.Tests.{eqb-true, eq-eqb, ne_eqb}
+use borrow.Author.Tests.{eqb-true, eqb-false, eq-eqb, ne_eqb}
 use lib.ListN.{take, drop, get_or, get_or-map}
 use lib.Seq.{get_or-take, get_or-drop}
+use Rattle.std.specs.List.{list_all, range_with_len}
 use Rattle.theory.specs.Query.{constant, column, map_row, same_entry}
 use Rattle.theory.specs.Chase.{agree, breaks}
 use Rattle.query.specs.View.{columns_from, columns_of, dependency_of}
@@ -105,6 +106,20 @@ module _ (width : ℕ) (words : List ℕ) (a b : ℕ) where
   pub agree-end : (c mask : ℕ) → width ≤ c → agree_from c mask ≡ true
   unfolding agree_from agree columns_from
   agree-end c mask h = let e : width - c ≡ 0 = omega arith in rw e
+
+  -- Whether each of n columns from c on is not of the mask or the same in both rows
+  pub agree_all : (mask c n : ℕ) → n ≡ width - c
+      → list_all (λ k. not (eqb (mask / 2 ^ k % 2) 1) || eqb (get_or words (a + 1 + k) 0) (get_or words (b + 1 + k) 0)) (range_with_len c n)
+      ≡ agree_from c (mask / 2 ^ c)
+  agree_all mask c zero size = sym (agree-end c (mask / 2 ^ c) (omega arith))
+  agree_all mask c (suc n) size =
+      go (eqb (mask / 2 ^ c % 2) 1) refl (eqb (get_or words (a + 1 + c) 0) (get_or words (b + 1 + c) 0)) refl (agree_all mask (c + 1) n (omega arith))
+    where
+      go : (t : Bool) → eqb (mask / 2 ^ c % 2) 1 ≡ t → (u : Bool) → eqb (get_or words (a + 1 + c) 0) (get_or words (b + 1 + c) 0) ≡ u → {rest : Bool}
+          → rest ≡ agree_from (c + 1) (mask / 2 ^ (c + 1)) → (not t || u) && rest ≡ agree_from c (mask / 2 ^ c)
+      go true e true f later = later ∙ sym (agree-next mask c (omega arith) (λ _. eqb-true _ _ f))
+      go true e false f later = sym (agree_differ c (mask / 2 ^ c) (omega arith) (eqb-true (mask / 2 ^ c % 2) 1 e) (eqb-false _ _ f))
+      go false e u f later = later ∙ sym (agree-next mask c (omega arith) (λ set. absurd (false≢true (sym e ∙ set))))
 
   -- two rows of the dependency's relation break it when they agree on the left and differ on the right
   pub breaks-spans : (d : Dependency) → get_or words a 0 ≡ d.relation → get_or words b 0 ≡ d.relation → d.right < width

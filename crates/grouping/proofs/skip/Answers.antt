@@ -8,16 +8,26 @@ use Rattle.std.proofs.lemmas.Grind.{common_steps}
 use Rattle.words.specs.declared.Position.{Position}
 use Rattle.words.specs.declared.Rows.{Rows}
 use Rattle.words.proofs.Walking.{stepped, ended}
-use Rattle.grouping.specs.internal.Walked.{Walked}
+use Rattle.grouping.specs.internal.Walked.{Walked, SkipsTo, end_at, Ends}
+use Rattle.grouping.specs.declared.End.{End}
+use Rattle.query.specs.declared.Dependency.{Dependency}
+use Rattle.std.specs.Prelude.{Option, None, Some}
+use mathlib.Core.List.{List}
 use Rattle.grouping.proofs.Passing.{rows_few, walked_start, walked-next, walked-none, walked-key, skips-start, skips-located}
 use Rattle.grouping.proofs.skip.Goals as goal
 
-pub returns-then-is_empty-clause-skips : goal.returns-then-is_empty-clause-skips
-returns-then-is_empty-clause-skips c =
+-- What is said of a row, or of none, is said of the end at it
+ends_at : (schema words : List ℕ) (d : Dependency) (r : Option Position) (e : End Position) → e ≡ end_at r → SkipsTo schema words d r → Ends schema words d e
+ends_at schema words d None e is h = subst (Ends schema words d) (sym is) h
+ends_at schema words d (Some p) e is h = subst (Ends schema words d) (sym is) h
+
+pub returns-then-is_empty : goal.returns-then-is_empty
+returns-then-is_empty c =
     let a = c.args in
     let r = c.each_row.result in
-    skips-start a.schema.now a.words.now a.d c.requires.words_value r.schema.now r.words.now c.next.new.self.schema.now c.next.new.self.words.now
-    r.place c.next.new.self.place c.next.result c.each_row.ensures.1 c.each_row.ensures.2 c.next.ensures.steps
+    ends_at a.schema.now a.words.now a.d c.next.result c.end_at.result c.end_at.ensures
+    (skips-start a.schema.now a.words.now a.d c.requires.words_value r.schema.now r.words.now c.next.new.self.schema.now c.next.new.self.words.now
+    r.place c.next.new.self.place c.next.result c.each_row.ensures.1 c.each_row.ensures.2 c.next.ensures.steps)
 
 pub loop-row-init : goal.loop-row-init
 loop-row-init c =
@@ -49,24 +59,29 @@ loop-row-preserved c =
       c.step-walk.auto.nodes ∙ l.invariant.4,
     )
 
-pub returns-then-walk-words-clause-skips : goal.returns-then-walk-words-clause-skips
-returns-then-walk-words-clause-skips c =
+pub returns-then-walk : goal.returns-then-walk
+returns-then-walk c =
+    let a = c.args in
+    let l = c.loop-row in
+    let end = ended l.invariant.0 l.invariant.1 c.in-None.ensures.steps in
+    let few = rows_few a.schema.now 0 a.words.now in (
+      walked-none a.schema.now a.words.now a.d l.row-iterator.place l.walk l.used l.nodes l.invariant.2 end
+          (omega (arith, few, (l.invariant.2.key c.if-walk.true).0)),
+      walked-key a.schema.now a.words.now a.d l.row-iterator.place l.walk l.used l.nodes l.invariant.2 end c.if-walk.true,
+    )
+
+pub returns-then-walk-words : goal.returns-then-walk-words
+returns-then-walk-words c =
     let a = c.args in
     let l = c.loop-row in
     let few = rows_few a.schema.now 0 a.words.now in
     walked-none a.schema.now a.words.now a.d l.row-iterator.place l.walk l.used l.nodes l.invariant.2
     (ended l.invariant.0 l.invariant.1 c.in-None.ensures.steps) (omega (arith, few, c.if-walk-words.true))
 
-pub returns-then-walk-words-clause-key : goal.returns-then-walk-words-clause-key
-returns-then-walk-words-clause-key c =
+pub returns : goal.returns
+returns c =
     let a = c.args in
     let l = c.loop-row in
-    walked-key a.schema.now a.words.now a.d l.row-iterator.place l.walk l.used l.nodes l.invariant.2
-    (ended l.invariant.0 l.invariant.1 c.in-None.ensures.steps)
-
-pub returns-else-walk-words-clause-skips : goal.returns-else-walk-words-clause-skips
-returns-else-walk-words-clause-skips c =
-    let a = c.args in
-    let l = c.loop-row in
-    skips-located a.schema.now a.words.now a.d l.row-iterator.place l.walk l.used l.nodes l.invariant.2
-    (ended l.invariant.0 l.invariant.1 c.in-None.ensures.steps) c.locate-row.result c.locate-row.ensures
+    ends_at a.schema.now a.words.now a.d c.locate.result c.end_at-2.result c.end_at-2.ensures
+    (skips-located a.schema.now a.words.now a.d l.row-iterator.place l.walk l.used l.nodes l.invariant.2
+    (ended l.invariant.0 l.invariant.1 c.in-None.ensures.steps) c.locate.result c.locate.ensures)

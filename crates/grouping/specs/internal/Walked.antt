@@ -7,9 +7,11 @@ use Rattle.words.specs.Words.{database_of}
 use Rattle.words.specs.Testing.{first_pair_from}
 use Rattle.words.specs.internal.Found.{From}
 use Rattle.grouping.specs.internal.Leaders.{position_of, Leaders}
-use Rattle.grouping.specs.internal.Groups.{Groups, KeyBelow}
+use Rattle.grouping.specs.internal.Groups.{Groups, Key, KeyBelow}
 use Rattle.words.specs.declared.Position.{Position}
 use Rattle.grouping.specs.declared.Walk.{Walk}
+use Rattle.grouping.specs.declared.End.{End}
+use Rattle.grouping.specs.declared.End.TheVariants.{Found, Nothing, Distinct}
 
 -- The row at `at` is the row at position n, or the words end at `at` and there are no more than n rows
 pub record RowBegins (schema words : List ℕ) (at n : ℕ) : Type 0 where
@@ -35,6 +37,17 @@ pub record Skips (schema words : List ℕ) (d : Dependency) (p : Position) : Typ
 abbrev pub SkipsTo : List ℕ → List ℕ → Dependency → Option Position → Type 0
 SkipsTo schema words d None = (n : ℕ) → first_pair_from (dependency_of d) n (database_of schema words) ≡ none
 SkipsTo schema words d (Some p) = Skips schema words d p × (p.at < length words)
+
+-- The end at a row, if there is one
+abbrev pub end_at : Option Position → End Position
+end_at None = Nothing
+end_at (Some p) = Found p
+
+-- How a walk ends, as far as it leads; if it sees that the left columns are distinct, they are a key
+abbrev pub Ends : List ℕ → List ℕ → Dependency → End Position → Type 0
+Ends schema words d (Found p) = SkipsTo schema words d (Some p)
+Ends schema words d Nothing = SkipsTo schema words d None
+Ends schema words d Distinct = SkipsTo schema words d None × Key (dependency_of d) (database_of schema words)
 
 -- The row at a position is found, or there are no more rows than that
 abbrev pub Located : List ℕ → List ℕ → ℕ → Option Position → Type 0

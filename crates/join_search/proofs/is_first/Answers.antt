@@ -1,54 +1,26 @@
--- `join_search::is_first` meets its contract. The loop's invariant: whether an earlier row is the same is whether one from row e on is. Assumes nothing.
-use mathlib.Core.Path.{◌≡◌, refl, sym, ◌∙◌, ap}
-use mathlib.Core.Bool.{Bool, true, false, not, ◌&&◌}
+-- `join_search::is_first` meets its contract. Assumes nothing.
+use Rattle.std.proofs.Common.{refl, sym, ap, rules, tests, ◌∙◌}
+use Rattle.std.proofs.lemmas.Iterator.{YieldsList-from_range}
+use Rattle.std.proofs.lemmas.Iterator.Search.{any_from_yields_List}
+use mathlib.Core.Bool.{Bool, not, ◌&&◌}
+use mathlib.Core.List.{List}
+use Prim.Native.Nat.{ℕ}
 use native.Mathlib.Nat.{sub-zero}
+use borrow.Author.Tests.{eq-eqb}
 use lib.Dec.{eqb}
 use lib.ListN.{get_or}
-use borrow.Author.Rules.{rules}
-use Rattle.join_search.specs.internal.Search.{some_of}
-use Rattle.join_search.proofs.Turns.{some_next, some-found, some_end, tested-true, tested-false, tested-other}
-use Rattle.join_search.proofs.is_first.Invariants.{same}
+use Rattle.join_search.specs.internal.Search.{same_on, some_of}
+use Rattle.join_search.proofs.Turns.{any-some}
 use Rattle.join_search.proofs.is_first.Goals as goal
-use Rattle.join_search.proofs.is_first.Goals.{then-relations-e+else-same_on, else-relations-e}
 
-not_first : (b s : Bool) → true ≡ s → false ≡ b && not s
-not_first true s e = ap not e
-not_first false s e = refl
+-- Whether row e is of the relation and the same as row i in the columns of a set
+abbrev same : List ℕ → List ℕ → ℕ → ℕ → ℕ → ℕ → Bool
+same codes relations relation set i e = eqb (get_or relations e 0) relation && same_on codes set i e
 
 pub returns-then-relations-i : goal.returns-then-relations-i
-returns-then-relations-i c = sym (tested-other _ _ _ c.if-relations-i.true)
-
-pub loop-e-init : goal.loop-e-init
-loop-e-init c = (search rules, refl)
-
-pub returns-then-same_on : goal.returns-then-same_on
-returns-then-same_on c =
+returns-then-relations-i c =
     let a = c.args in
-    let l = c.loop-e in
     let test = same a.codes.now a.relations.now a.relation a.set a.i in
-    not_first (eqb (get_or a.relations.now a.i 0) a.relation) (some_of test 0 a.i)
-    (some-found test a.i l.e (search rules)
-    (tested-true _ _ c.same_on.result _ c.if-relations-e.true c.same_on.ensures c.if-same_on.true)
-    ∙ sym l.invariant.1 ∙ ap (some_of test 0) (sub-zero a.i))
-
-pub loop-e-preserved : goal.loop-e-preserved
-loop-e-preserved c =
-    let a = c.args in
-    let l = c.loop-e in
-    let test = same a.codes.now a.relations.now a.relation a.set a.i in (
-      search rules,
-      l.invariant.1
-          ∙ some_next test a.i l.e (search rules)
-          (elim c.if-relations-e.branch [
-            | then-relations-e+else-same_on w ↦ tested-false _ _ w.same_on.result _ w.if-relations-e.true w.same_on.ensures w.if-same_on.false
-            | else-relations-e w ↦ tested-other _ _ _ w.if-relations-e.false
-          ]),
-    )
-
-pub returns : goal.returns
-returns c =
-    let a = c.args in
-    let l = c.loop-e in
-    let test = same a.codes.now a.relations.now a.relation a.set a.i in
-    let nothing = some_end test a.i l.e c.loop-e-test.false ∙ sym l.invariant.1 ∙ ap (some_of test 0) (sub-zero a.i) in
-    sym (tested-true _ _ (not (some_of test 0 a.i)) _ c.if-relations-i.false refl (ap not (sym nothing)))
+    let found = any_from_yields_List test _ _ _ c.any.ensures.ran (YieldsList-from_range 0 a.i a.i refl (sub-zero a.i)) (λ x b q k. search (rules, tests))
+    ∙ any-some test 0 a.i in
+    ap not found ∙ ap (λ t. t && not (some_of test 0 a.i)) (sym (eq-eqb (get_or a.relations.now a.i 0) a.relation c.if-relations-i.true))

@@ -7,11 +7,11 @@ use Rattle.join_testing.proofs.Searching.{Going}
 use Rattle.join_testing.proofs.+search.Given as goal
 
 abbrev pub decreases-search : goal.decreases-search
-decreases-search l = l.j.count - l.k
+decreases-search l = l.tables.now.j.count - l.k
 
 abbrev pub invariant-loop-at : goal.invariant-loop-at
 invariant-loop-at l =
-    (g : Searchable l.schema l.words l.j) × (i : Indexed l.schema l.words l.j l.x l.heads l.nodes) × (more : l.k < l.j.count) × Going g i l.k more l.values l.at
+    (g : Searchable l.tables.schema.now l.tables.words.now l.tables.j) × (i : Indexed l.tables.schema.now l.tables.words.now l.tables.j l.tables.x l.tables.heads.now l.tables.nodes.now) × (more : l.k < l.tables.j.count) × Going g i l.k more l.values l.at
 
 abbrev pub decreases-loop-at : goal.decreases-loop-at
-decreases-loop-at l = length l.words - l.at
+decreases-loop-at l = length l.tables.words.now - l.at

@@ -5,7 +5,9 @@ use mathlib.Core.List.{List}
 use Prim.Native.Nat.{ℕ, ◌-◌, ◌+◌}
 use native.Mathlib.Omega.{arith}
 use lib.ListN.{length, take, drop}
-use Rattle.std.specs.Prelude.{Option, Some}
+use Rattle.testing.proofs.Superkeys.{key-none}
+use Rattle.grouping.specs.declared.End.{End}
+use Rattle.grouping.specs.declared.End.TheVariants.{Found}
 use Rattle.query.specs.View.{dependency_of}
 use Rattle.query.specs.declared.Dependency.{Dependency}
 use Rattle.words.specs.Words.{database_of}
@@ -14,63 +16,64 @@ use Rattle.words.specs.internal.Found.{pair_of, From}
 use Rattle.words.specs.declared.Position.{Position}
 use Rattle.words.proofs.Search.{pair_found, pair-later, pair-other, pair_end}
 use Rattle.grouping.specs.internal.Groups.{Key}
-use Rattle.grouping.specs.internal.Walked.{Skips, SkipsTo}
+use Rattle.grouping.specs.internal.Walked.{Skips, Ends}
 use Rattle.grouping.proofs.Passing.{rest_all, skips-on}
 use Rattle.testing.proofs.first_pair.Goals as goal
 
 -- Where the walk is after a skip to a row
-skipped : (S X : List ℕ) (d : Dependency) (at i : ℕ) (r : Option Position) (p : Position) → From S X at i → SkipsTo S (take (length X - at) (drop at X)) d r → r ≡ Some p
+skipped : (S X : List ℕ) (d : Dependency) (at i : ℕ) (r : End Position) (p : Position) → From S X at i → Ends S (take (length X - at) (drop at X)) d r → r ≡ Found p
     → From S X (at + p.at) (i + p.number)
     × (first_pair_from (dependency_of d) i (database_of S (drop at X)) ≡ first_pair_from (dependency_of d) (i + p.number) (database_of S (drop (at + p.at) X)))
 skipped S X d at i r p f h e =
     skips-on S X d at i p f
-    (subst (λ (Y : List ℕ). Skips S Y d p) (rest_all X at) (subst (λ (x : Option Position). SkipsTo S (take (length X - at) (drop at X)) d x) e h).0)
+    (subst (λ (Y : List ℕ). Skips S Y d p) (rest_all X at) (subst (Ends S (take (length X - at) (drop at X)) d) e h).0)
 
-pub returns-then-place-eq0-clause-key : goal.returns-then-place-eq0-clause-key
-returns-then-place-eq0-clause-key c = let a = c.args in
+pub returns-then-place-eq0 : goal.returns-then-place-eq0
+returns-then-place-eq0 c = let a = c.args in
     let at = c.loop-place.place.at in
     let all : take (length a.words.now - at) (drop at a.words.now) ≡ a.words.now =
     rest_all a.words.now at ∙ ap (λ (n : ℕ). drop n a.words.now) c.if-place-eq0.true in
-    λ t. subst (λ (Y : List ℕ). Key (dependency_of a.d) (database_of a.schema.now Y)) all (c.skip-skipped.ensures.key t)
+    let key = subst (λ (Y : List ℕ). Key (dependency_of a.d) (database_of a.schema.now Y)) all c.in-Distinct.ensures.1 in
+    (sym (ap pair_of (key-none (dependency_of a.d) 0 (database_of a.schema.now a.words.now) key)), key)
 
-pub returns-in-Some-first_partner-clause-pair_value : goal.returns-in-Some-first_partner-clause-pair_value
-returns-in-Some-first_partner-clause-pair_value c =
+pub returns-in-Some : goal.returns-in-Some
+returns-in-Some c =
     let a = c.args in
     let l = c.loop-place in
-    let p = c.in-Some.row in
-    let k = skipped a.schema.now a.words.now a.d l.place.at l.place.number c.skip-skipped.result.row p l.invariant.0 c.skip-skipped.ensures.skips c.in-Some.is in
+    let p = c.in-Found.row in
+    let k = skipped a.schema.now a.words.now a.d l.place.at l.place.number c.skip.result p l.invariant.0 c.skip.ensures c.in-Found.is in
     sym (ap pair_of (l.invariant.1 ∙ k.1) ∙ pair_found a.schema.now a.words.now (dependency_of a.d) (l.place.at + p.at) c.next.result
-    (l.place.number + p.number) c.in-Some-first_partner.second c.next.ensures (c.in-Some-first_partner.ensures))
+    (l.place.number + p.number) c.in-Some.second c.next.ensures (c.in-Some.ensures))
 
-pub loop-place-preserved-in_default-first_partner : goal.loop-place-preserved-in_default-first_partner
-loop-place-preserved-in_default-first_partner c =
+pub loop-place-preserved-in_default : goal.loop-place-preserved-in_default
+loop-place-preserved-in_default c =
     let a = c.args in
     let l = c.loop-place in
-    let p = c.in-Some.row in
+    let p = c.in-Found.row in
     let n = c.next.ensures in
-    let k = skipped a.schema.now a.words.now a.d l.place.at l.place.number c.skip-skipped.result.row p l.invariant.0 c.skip-skipped.ensures.skips c.in-Some.is in (
+    let k = skipped a.schema.now a.words.now a.d l.place.at l.place.number c.skip.result p l.invariant.0 c.skip.ensures c.in-Found.is in (
       record { inside = n.fits; counted = omega (arith, n.place, k.0.counted); good = n.good },
       l.invariant.1 ∙ k.1 ∙ pair-later a.schema.now a.words.now (dependency_of a.d) (l.place.at + p.at) c.next.result (l.place.number + p.number) n
-          c.in_default-first_partner.ensures,
-      c.skip-skipped.auto.heads ∙ l.invariant.2,
-      c.skip-skipped.auto.nodes ∙ l.invariant.3,
+          c.in_default.ensures,
+      c.skip.auto.heads ∙ l.invariant.2,
+      c.skip.auto.nodes ∙ l.invariant.3,
     )
 
 pub loop-place-preserved : goal.loop-place-preserved
 loop-place-preserved c =
     let a = c.args in
     let l = c.loop-place in
-    let p = c.in-Some.row in
+    let p = c.in-Found.row in
     let n = c.next.ensures in
-    let k = skipped a.schema.now a.words.now a.d l.place.at l.place.number c.skip-skipped.result.row p l.invariant.0 c.skip-skipped.ensures.skips c.in-Some.is in (
+    let k = skipped a.schema.now a.words.now a.d l.place.at l.place.number c.skip.result p l.invariant.0 c.skip.ensures c.in-Found.is in (
       record { inside = n.fits; counted = omega (arith, n.place, k.0.counted); good = n.good },
       l.invariant.1 ∙ k.1 ∙ pair-other a.schema.now a.words.now (dependency_of a.d) (l.place.at + p.at) c.next.result (l.place.number + p.number) n
           c.if-words-first.false,
-      c.skip-skipped.auto.heads ∙ l.invariant.2,
-      c.skip-skipped.auto.nodes ∙ l.invariant.3,
+      c.skip.auto.heads ∙ l.invariant.2,
+      c.skip.auto.nodes ∙ l.invariant.3,
     )
 
-pub returns-clause-pair_value : goal.returns-clause-pair_value
-returns-clause-pair_value c = let l = c.loop-place in
+pub returns : goal.returns
+returns c = let l = c.loop-place in
     let a = c.args in
     sym (ap pair_of (l.invariant.1 ∙ pair_end a.schema.now a.words.now (dependency_of a.d) l.place.at l.place.number c.loop-place-test.false))

@@ -3,7 +3,7 @@
 -- Assumes nothing.
 use mathlib.Core.Path.{◌≡◌}
 use mathlib.Core.List.{map}
-use lib.ListN.{length, take, drop}
+use lib.ListN.{length, drop}
 use Rattle.query.specs.View.{dependency_of}
 use Rattle.words.specs.Words.{database_of}
 use Rattle.words.specs.Testing.{first_broken_from}
@@ -11,6 +11,6 @@ use Rattle.testing.specs.internal.Keyed.{Keyed}
 use Rattle.testing.proofs.first_violation.Given as goal
 
 abbrev pub invariant-loop-k : goal.invariant-loop-k
-invariant-loop-k l = (first_broken_from 0 (map dependency_of (take l.held l.dependencies)) (database_of l.schema l.words)
-    ≡ first_broken_from l.k (map dependency_of (drop l.k (take l.held l.dependencies))) (database_of l.schema l.words))
+invariant-loop-k l = (first_broken_from 0 (map dependency_of l.dependencies) (database_of l.schema l.words)
+    ≡ first_broken_from l.k (map dependency_of (drop l.k l.dependencies)) (database_of l.schema l.words))
     × Keyed (database_of l.schema l.words) l.keys × (length l.nodes ≡ length l.initial.nodes) × (length l.used ≡ length l.initial.used)
