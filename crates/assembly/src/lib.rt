@@ -32,14 +32,14 @@ pub fn up_to_filled(places: [Place; 8]) -> usize
     n
 }
 
-// How long the parts of the first n places are.
-pub fn places_length(places: [Place; 8], n: usize, schema: Schema) -> usize
-    requires places_value { every (good_place (widths_in schema)) places ≡ true }
-    requires n_bound { n ≤ 8 }
-    ensures { (result ≡ length (flatten (map (put_place (widths_in schema)) (take n places)))) × (result ≤ 4272) }
+// How long the parts of some places are.
+pub fn places_length(places: &[Place], schema: Schema) -> usize
+    requires places_value { every (good_place (widths_in schema)) places.now ≡ true }
+    requires few { length places.now ≤ 8 }
+    ensures { (result ≡ length (flatten (map (put_place (widths_in schema)) places.now))) × (result ≤ 4272) }
 {
     let mut sum = 0;
-    for place in &places[..n] {
+    for place in places {
         sum += place_length(*place, schema);
     }
     sum
@@ -134,22 +134,15 @@ fn put_joins(buffer: &mut [u8], at: usize, joined: u8, list: [JoinDependency; 4]
 
 // ---- the directory and the places
 
-// The pairs of the first n places at a position, the first part starting at `start`.
-fn put_table(
-    buffer: &mut [u8],
-    at: usize,
-    start: usize,
-    places: [Place; 8],
-    n: usize,
-    schema: Schema,
-)
-    requires places_value { every (good_place (widths_in schema)) places ≡ true }
-    requires n_bound { (n ≤ 8) × (start ≤ 1000) }
-    requires n_in_bounds { at + 4 * n ≤ length buffer.old }
-    ensures { buffer.new ≡ over buffer.old at (table_of start (map (put_place (widths_in schema)) (take n places))) }
+// The pairs of some places at a position, the first part starting at `start`.
+fn put_table(buffer: &mut [u8], at: usize, start: usize, places: &[Place], schema: Schema)
+    requires places_value { every (good_place (widths_in schema)) places.now ≡ true }
+    requires few { (length places.now ≤ 8) × (start ≤ 1000) }
+    requires in_bounds { at + 4 * length places.now ≤ length buffer.old }
+    ensures { buffer.new ≡ over buffer.old at (table_of start (map (put_place (widths_in schema)) places.now)) }
 {
     let mut due = start;
-    for (k, place) in places[..n].iter().enumerate() {
+    for (k, place) in places.iter().enumerate() {
         let size = place_length(*place, schema);
         put_word(buffer, at + 4 * k, due);
         put_word(buffer, at + 4 * k + 2, size);
@@ -157,15 +150,14 @@ fn put_table(
     }
 }
 
-// The parts of the first n places from a position on.
-fn put_places(buffer: &mut [u8], start: usize, places: [Place; 8], n: usize, schema: Schema)
-    requires places_value { every (good_place (widths_in schema)) places ≡ true }
-    requires n_bound { n ≤ 8 }
-    requires places_in_bounds { start + length (flatten (map (put_place (widths_in schema)) (take n places))) ≤ length buffer.old }
-    ensures { buffer.new ≡ over buffer.old start (flatten (map (put_place (widths_in schema)) (take n places))) }
+// The parts of some places from a position on.
+fn put_places(buffer: &mut [u8], start: usize, places: &[Place], schema: Schema)
+    requires places_value { every (good_place (widths_in schema)) places.now ≡ true }
+    requires in_bounds { start + length (flatten (map (put_place (widths_in schema)) places.now)) ≤ length buffer.old }
+    ensures { buffer.new ≡ over buffer.old start (flatten (map (put_place (widths_in schema)) places.now)) }
 {
     let mut at = start;
-    for place in &places[..n] {
+    for place in places {
         at = put_place(buffer, at, *place, schema);
     }
 }
@@ -175,22 +167,22 @@ pub fn put_directory(
     buffer: &mut [u8],
     first: usize,
     second: usize,
-    places: [Place; 8],
-    n: usize,
+    places: &[Place],
     schema: Schema,
 )
-    requires places_value { every (good_place (widths_in schema)) places ≡ true }
-    requires n_bound { (n ≤ 8) × (first ≤ 9) × (second ≤ 122) }
-    requires n_in_bounds { 10 + 4 * n ≤ length buffer.old }
-    ensures { buffer.new ≡ over buffer.old 0 (directory_bytes n first second (map (put_place (widths_in schema)) (take n places))) }
+    requires places_value { every (good_place (widths_in schema)) places.now ≡ true }
+    requires few { (length places.now ≤ 8) × (first ≤ 9) × (second ≤ 122) }
+    requires in_bounds { 10 + 4 * length places.now ≤ length buffer.old }
+    ensures { buffer.new ≡ over buffer.old 0 (directory_bytes (length places.now) first second (map (put_place (widths_in schema)) places.now)) }
 {
+    let n = places.len();
     let start = 2 + 4 * (n + 2);
     put_word(buffer, 0, n + 2);
     put_word(buffer, 2, start);
     put_word(buffer, 4, first);
     put_word(buffer, 6, start + first);
     put_word(buffer, 8, second);
-    put_table(buffer, 10, start + first + second, places, n, schema);
+    put_table(buffer, 10, start + first + second, places, schema);
 }
 
 // All parts from a position on.
@@ -205,11 +197,10 @@ pub fn put_parts(buffer: &mut [u8], start: usize, given: Record, n: usize)
     let list = given.dependencies;
     let joined = given.joined;
     let joins = given.joins;
-    let places = given.places;
     let first = start + 1 + given.relations as usize;
     let second = first + 1 + 3 * (held as usize);
     put_relations(buffer, start, schema);
     put_dependencies(buffer, first, held, list);
     let third = put_joins(buffer, second, joined, joins);
-    put_places(buffer, third, places, n, schema);
+    put_places(buffer, third, &given.places[..n], schema);
 }

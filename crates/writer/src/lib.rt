@@ -19,16 +19,16 @@ pub fn write_good(given: Record, buffer: &mut [u8]) -> Result<usize, Refusal>
     let held = given.held;
     let joined = given.joined;
     let joins = given.joins;
-    let places = given.places;
-    let n = up_to_filled(places);
+    let n = up_to_filled(given.places);
+    let places = &given.places[..n];
     let first = 1 + given.relations as usize;
     let second = 1 + 3 * (held as usize) + joins_length(joined, joins);
-    let others = places_length(places, n, schema);
+    let others = places_length(places, schema);
     let size = 2 + 4 * (n + 2) + first + second + others;
     if buffer.len() < size {
         return Err(Refusal::BufferTooShort);
     }
-    put_directory(buffer, first, second, places, n, schema);
+    put_directory(buffer, first, second, places, schema);
     put_parts(buffer, 2 + 4 * (n + 2), given, n);
     Ok(size)
 }

@@ -10,4 +10,4 @@ use Rattle.assembly.proofs.places_length.Given as goal
 abbrev pub invariant-loop-place : goal.invariant-loop-place
 invariant-loop-place l =
     (l.sum ≤ 534 * l.place-index)
-    × (length (flatten (map (put_place (widths_in l.schema)) l.place-items)) ≡ l.sum + length (flatten (map (put_place (widths_in l.schema)) (drop l.place-index l.place-items))))
+    × (length (flatten (map (put_place (widths_in l.schema)) l.places)) ≡ l.sum + length (flatten (map (put_place (widths_in l.schema)) (drop l.place-index l.places))))

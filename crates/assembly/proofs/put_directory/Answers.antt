@@ -2,13 +2,12 @@ use mathlib.Core.Path.{◌≡◌, refl}
 use mathlib.Core.List.{List, [], ◌++◌, map}
 use Prim.Native.Nat.{ℕ, ◌+◌, ◌*◌, ◌≤◌}
 use native.Mathlib.Omega.{arith}
-use lib.ListN.{length, take, length-map}
+use lib.ListN.{length, length-map}
 use Rattle.query.specs.declared.Place.{Place}
 use Rattle.lists.specs.Over.{over}
 use Rattle.format.specs.Bytes.{bytes_of}
 use Rattle.format.specs.File.{table_of, put_place}
 use Rattle.format.proofs.Directory.{length-table}
-use Rattle.format.proofs.Lengths.{take_short}
 use Rattle.encoder.proofs.Stores.{Run, run-starts, run-turns, word-run}
 use Rattle.limits.specs.Schema.{widths_in}
 use Rattle.assembly.proofs.put_directory.Goals as goal
@@ -62,23 +61,23 @@ module _ (before : List ℕ) (n first second : ℕ) (parts : List (List ℕ)) (r
                 run-turns run-5 (table_of begin parts) after (10 + length (table_of begin parts)) (omega (arith, length-table begin parts)) e refl
 
 -- The parts that the table lists
-abbrev listed : List ℕ → ℕ → List Place → List (List ℕ)
-listed schema n places = map (put_place schema) (take n places)
+abbrev listed : List ℕ → List Place → List (List ℕ)
+listed schema places = map (put_place schema) places
 
-few : (schema : List ℕ) (n : ℕ) (places : List Place) → length (listed schema n places) ≤ n
-few schema n places = rw (length-map (take n places) (put_place schema)) (take_short n places)
+few : (schema : List ℕ) (places : List Place) → length (listed schema places) ≤ length places
+few schema places = rw (length-map places (put_place schema)) (omega arith)
 
 -- The whole directory
 whole : (c : goal.After-put_table) → Run c.args.buffer.now 0
-    (bytes-5 c.args.buffer.now c.args.n c.args.first c.args.second (listed (widths_in c.args.schema) c.args.n c.args.places) c.requires.n_in_bounds
-    ++ table_of (2 + 4 * (c.args.n + 2) + c.args.first + c.args.second) (listed (widths_in c.args.schema) c.args.n c.args.places)) c.put_table.new.buffer
-    (10 + length (table_of (2 + 4 * (c.args.n + 2) + c.args.first + c.args.second) (listed (widths_in c.args.schema) c.args.n c.args.places)))
+    (bytes-5 c.args.buffer.now (length c.args.places.now) c.args.first c.args.second (listed (widths_in c.args.schema) c.args.places.now) c.requires.in_bounds
+    ++ table_of (2 + 4 * (length c.args.places.now + 2) + c.args.first + c.args.second) (listed (widths_in c.args.schema) c.args.places.now)) c.put_table.new.buffer
+    (10 + length (table_of (2 + 4 * (length c.args.places.now + 2) + c.args.first + c.args.second) (listed (widths_in c.args.schema) c.args.places.now)))
 whole c =
     let a = c.args in
     let schema = widths_in a.schema in
-    last-run a.buffer.now a.n a.first a.second (listed schema a.n a.places) c.requires.n_in_bounds c.put_word.new.buffer c.put_word.ensures
+    last-run a.buffer.now (length a.places.now) a.first a.second (listed schema a.places.now) c.requires.in_bounds c.put_word.new.buffer c.put_word.ensures
     c.put_word-2.new.buffer c.put_word-2.ensures c.put_word-3.new.buffer c.put_word-3.ensures c.put_word-4.new.buffer c.put_word-4.ensures
-    c.put_word-5.new.buffer c.put_word-5.ensures c.put_table.new.buffer (few schema a.n a.places) c.put_table.ensures
+    c.put_word-5.new.buffer c.put_word-5.ensures c.put_table.new.buffer (few schema a.places.now) c.put_table.ensures
 
 pub returns : goal.returns
 returns c = (whole (goal.at.returns c).After-put_table).written

@@ -12,6 +12,8 @@ use Rattle.format.specs.Parts.{relations}
 use Rattle.format.specs.File.{put_place}
 use Rattle.assembly.specs.internal.Pieces.{dependency_bytes, joins_bytes, part_bytes}
 use Rattle.lists.proofs.Loops.{mapped-length}
+use Rattle.lists.proofs.Tests.{every_take}
+use Rattle.query.specs.Rule.{good_place}
 use Rattle.record.proofs.Good.{good-record}
 use Rattle.encoder.proofs.Stores.{Run, run-starts, run-turns}
 use Rattle.lists.specs.Over.{over}
@@ -120,9 +122,8 @@ put_places-requires c =
     c.put_relations.new.buffer (rw (c.schema-schema.ensures.relations, c.schema-schema.ensures.widths) at c.put_relations.ensures) c.put_dependencies.new.buffer c.put_dependencies.ensures c.put_joins-third.new.buffer
     c.put_joins-third.ensures.0 in
     record {
-      places_value = rw c.schema-schema.ensures.value parts.places;
-      n_bound = c.requires.n_bound;
-      places_in_bounds = rw c.schema-schema.ensures.value (omega (arith, run.long, c.put_joins-third.ensures.1, fits start'));
+      places_value = rw c.schema-schema.ensures.value (every_take (good_place (schema_of a.given)) a.n a.given.places parts.places);
+      in_bounds = rw c.schema-schema.ensures.value (omega (arith, run.long, c.put_joins-third.ensures.1, fits start'));
     }
 
 -- All parts are written

@@ -22,27 +22,18 @@ unfolding flatten flat_map
 joined f [] = refl
 joined f (p ∷ ps) = ap (λ (t : List ℕ). f p ++ t) (joined f ps)
 
--- Each of the first places is good
-good : (schema : List ℕ) (places : List Place) (n k : ℕ) → n ≤ length places → every (good_place schema) places ≡ true → k < length (take n places)
-    → good_place schema (get_or (take n places) k past_place) ≡ true
-good schema places n k l e h =
-    let m : length (take n places) ≡ n = length-take-le n places l in
-    let same : get_or (take n places) k past_place ≡ get_or places k past_place = get_or-take n places k past_place (omega arith) in
-    rw same (every-get_or (good_place schema) places k past_place e (omega arith))
-
 pub loop-place-init : goal.loop-place-init
 loop-place-init c =
     let schema = widths_in c.args.schema in
-    let first = take c.args.n c.args.places in
-    writing-starts (put_place schema) c.args.buffer.now c.args.start first (rw (← joined (put_place schema) first) c.requires.places_in_bounds)
+    let places = c.args.places.now in
+    writing-starts (put_place schema) c.args.buffer.now c.args.start places (rw (← joined (put_place schema) places) c.requires.in_bounds)
 
 pub put_place-at-requires : goal.put_place-at-requires
 put_place-at-requires c =
-    let l : length c.args.places ≡ 8 = search rules in
     record {
       place_value =
-          good (widths_in c.args.schema) c.args.places c.args.n c.loop-place.place-index (omega (arith, c.requires.n_bound))
-          c.requires.places_value c.loop-place-test.true;
+          every-get_or (good_place (widths_in c.args.schema)) c.args.places.now c.loop-place.place-index past_place c.requires.places_value
+          c.loop-place-test.true;
       place_in_bounds = writing-room c.loop-place.invariant past_place c.loop-place-test.true;
     }
 
@@ -55,4 +46,4 @@ pub returns : goal.returns
 returns c =
     (writing-ends c.loop-place.invariant c.loop-place-test.false).0
     ∙ ap (over c.args.buffer.now c.args.start)
-    (sym (joined (put_place (widths_in c.args.schema)) (take c.args.n c.args.places)))
+    (sym (joined (put_place (widths_in c.args.schema)) c.args.places.now))

@@ -20,18 +20,16 @@ use Rattle.assembly.proofs.FirstPlaces.{parts_next, parts-end}
 use Rattle.assembly.proofs.put_table.Invariants.{parts_from, At}
 use Rattle.assembly.proofs.put_table.Goals as goal
 
-parts-left : (schema : List ℕ) (places : List Place) (n k : ℕ) → n ≤ length places → length (parts_from schema places n k) ≡ n - k
-parts-left schema places n k l =
-    let m : length (take n places) ≡ n = length-take-le n places l in
-    length-map (drop k (take n places)) (put_place schema) ∙ length-drop k (take n places) ∙ ap (λ (j : ℕ). j - k) m
+parts-left : (schema : List ℕ) (places : List Place) (k : ℕ) → length (parts_from schema places k) ≡ length places - k
+parts-left schema places k = length-map (drop k places) (put_place schema) ∙ length-drop k places
 
 table-cons : (due : ℕ) (p : List ℕ) (ps : List (List ℕ)) → table_of due (p ∷ ps) ≡ bytes_of 2 due ++ bytes_of 2 (length p) ++ table_of (due + length p) ps
 unfolding table_of
 table-cons due p ps = refl
 
-module _ (schema before : List ℕ) (at start n : ℕ) (places : List Place) (buffer : List ℕ) (due k : ℕ) (l : n ≤ length places)
-    (room : at + 4 * n ≤ length before)
-    (f : At schema before at start n places buffer due k) (h : k < n) where
+module _ (schema before : List ℕ) (at start : ℕ) (places : List Place) (buffer : List ℕ) (due k : ℕ)
+    (room : at + 4 * length places ≤ length before)
+    (f : At schema before at start places buffer due k) (h : k < length places) where
   room-first : at + 4 * k + 2 ≤ length buffer
   room-first = omega (arith, f.long)
 
@@ -41,18 +39,18 @@ module _ (schema before : List ℕ) (at start n : ℕ) (places : List Place) (bu
 
     goes_on : (size : ℕ) → size ≡ length (put_place schema (get_or places k past_place)) → size ≤ 534 → (second : List ℕ)
         → second ≡ over first (at + 4 * k + 2) (bytes_of 2 size)
-        → At schema before at start n places second (due + size) (k + 1)
+        → At schema before at start places second (due + size) (k + 1)
     goes_on size es small second e₂ =
         let p : List ℕ = put_place schema (get_or places k past_place) in
-        let ps : List (List ℕ) = parts_from schema places n (k + 1) in
+        let ps : List (List ℕ) = parts_from schema places (k + 1) in
         let more : List ℕ = table_of (due + length p) ps in
         let pair : List ℕ = bytes_of 2 due ++ bytes_of 2 (length p) in
         let ld : length (bytes_of 2 due) ≡ 2 = length-bytes 2 due in
         let lp : length (bytes_of 2 (length p)) ≡ 2 = length-bytes 2 (length p) in
         let lq : length pair ≡ 4 = length-append (bytes_of 2 due) (bytes_of 2 (length p)) ∙ omega arith in
-        let lm : length more ≡ 4 * (n - (k + 1)) = length-table (due + length p) ps ∙ ap (λ (j : ℕ). 4 * j) (parts-left schema places n (k + 1) l) in
+        let lm : length more ≡ 4 * (length places - (k + 1)) = length-table (due + length p) ps ∙ ap (λ (j : ℕ). 4 * j) (parts-left schema places (k + 1)) in
         let long = f.long in
-        let split : table_of due (parts_from schema places n k) ≡ pair ++ more = ap (table_of due) (parts_next schema places n k l h) ∙ table-cons due p ps in
+        let split : table_of due (parts_from schema places k) ≡ pair ++ more = ap (table_of due) (parts_next schema places k h) ∙ table-cons due p ps in
         let n₁ : at + 4 * k + 2 ≡ at + 4 * k + length (bytes_of 2 due) = omega arith in
         let two : second ≡ over buffer (at + 4 * k) pair =
         e₂ ∙ ap (λ (b : List ℕ). over b (at + 4 * k + 2) (bytes_of 2 size)) e₁
@@ -70,48 +68,28 @@ module _ (schema before : List ℕ) (at start n : ℕ) (places : List Place) (bu
           rest = f.rest ∙ ap (over buffer (at + 4 * k)) split ∙ three ∙ ap (λ (s : ℕ). over second (at + 4 * (k + 1)) (table_of (due + s) ps)) (sym es);
         }
 
-ended : (schema before : List ℕ) (at start n : ℕ) (places : List Place) (buffer : List ℕ) (due k : ℕ) → n ≤ length places
-    → At schema before at start n places buffer due k → n ≤ k
-    → buffer ≡ over before at (table_of start (map (put_place schema) (take n places)))
+ended : (schema before : List ℕ) (at start : ℕ) (places : List Place) (buffer : List ℕ) (due k : ℕ) → At schema before at start places buffer due k
+    → length places ≤ k → buffer ≡ over before at (table_of start (map (put_place schema) places))
 unfolding table_of
-ended schema before at start n places buffer due k l f h =
-    sym (f.rest ∙ ap (λ (ps : List (List ℕ)). over buffer (at + 4 * k) (table_of due ps)) (parts-end schema places n k l h) ∙ over-nil buffer (at + 4 * k))
-
--- A position among the first n places, and one past them
-low : (n k : ℕ) (places : List Place) → k < length (take n places) → k < n
-low n k places h = omega (arith, length-take n places)
-
-past : (n k : ℕ) (places : List Place) → n ≤ length places → length (take n places) ≤ k → n ≤ k
-past n k places l h = omega (arith, length-take n places)
-
-same : (n k : ℕ) (places : List Place) → k < length (take n places) → get_or (take n places) k past_place ≡ get_or places k past_place
-same n k places h = get_or-take n places k past_place (low n k places h)
+ended schema before at start places buffer due k f h =
+    sym (f.rest ∙ ap (λ (ps : List (List ℕ)). over buffer (at + 4 * k) (table_of due ps)) (parts-end schema places k h) ∙ over-nil buffer (at + 4 * k))
 
 pub place_length-size-requires : goal.place_length-size-requires
 place_length-size-requires c =
-    let l : length c.args.places ≡ 8 = search rules in
     record {
       place_value =
-          rw (same c.args.n c.loop-k.k c.args.places c.loop-k-test.true)
-          (every-get_or (good_place (widths_in c.args.schema)) c.args.places c.loop-k.k past_place
-          c.requires.places_value (omega (arith, c.requires.n_bound.0, low c.args.n c.loop-k.k c.args.places c.loop-k-test.true)));
+          every-get_or (good_place (widths_in c.args.schema)) c.args.places.now c.loop-k.k past_place c.requires.places_value c.loop-k-test.true;
     }
 
 pub loop-k-preserved : goal.loop-k-preserved
 loop-k-preserved c =
-    let l : length c.args.places ≡ 8 = search rules in
-    goes_on (widths_in c.args.schema) c.args.buffer.now c.args.at c.args.start c.args.n
-    c.args.places c.loop-k.buffer c.loop-k.due c.loop-k.k (omega (arith, c.requires.n_bound.0)) c.requires.n_in_bounds
-    c.loop-k.invariant (low c.args.n c.loop-k.k c.args.places c.loop-k-test.true) c.put_word.new.buffer c.put_word.ensures
-    c.place_length-size.result
-    (c.place_length-size.ensures.0
-    ∙ ap (λ (p : Place). length (put_place (widths_in c.args.schema) p)) (same c.args.n c.loop-k.k c.args.places c.loop-k-test.true))
-    c.place_length-size.ensures.1
+    goes_on (widths_in c.args.schema) c.args.buffer.now c.args.at c.args.start
+    c.args.places.now c.loop-k.buffer c.loop-k.due c.loop-k.k c.requires.in_bounds
+    c.loop-k.invariant c.loop-k-test.true c.put_word.new.buffer c.put_word.ensures
+    c.place_length-size.result c.place_length-size.ensures.0 c.place_length-size.ensures.1
     c.put_word-in-loop-k.new.buffer c.put_word-in-loop-k.ensures
 
 pub returns : goal.returns
 returns c =
-    let l : length c.args.places ≡ 8 = search rules in
-    ended (widths_in c.args.schema) c.args.buffer.now c.args.at c.args.start c.args.n
-    c.args.places c.loop-k.buffer c.loop-k.due c.loop-k.k (omega (arith, c.requires.n_bound.0)) c.loop-k.invariant
-    (past c.args.n c.loop-k.k c.args.places (omega (arith, c.requires.n_bound.0)) c.loop-k-test.false)
+    ended (widths_in c.args.schema) c.args.buffer.now c.args.at c.args.start
+    c.args.places.now c.loop-k.buffer c.loop-k.due c.loop-k.k c.loop-k.invariant c.loop-k-test.false

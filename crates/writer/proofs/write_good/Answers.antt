@@ -4,7 +4,10 @@ use mathlib.Core.Bool.{true}
 use mathlib.Core.List.{List, [], ◌++◌, map, flatten}
 use Prim.Native.Nat.{ℕ, ◌+◌, ◌*◌, ◌≤◌, ◌<◌}
 use native.Mathlib.Omega.{arith}
-use lib.ListN.{length, take}
+use lib.ListN.{length, take, length-take}
+use lib.Seq.{length-take-le}
+use Rattle.query.specs.Rule.{good_place}
+use Rattle.lists.proofs.Tests.{every_take}
 use Rattle.refusals.specs.Refusals.{buffer_too_short, refused, gives}
 use Rattle.record.specs.declared.Record.{Record}
 use Rattle.record.specs.View.{schema_of}
@@ -105,7 +108,11 @@ joins_length-requires c =
 pub places_length-others-requires : goal.places_length-others-requires
 places_length-others-requires c =
     let good = good-record c.args.given c.requires in
-    record { places_value = rw c.schema-schema.ensures.value good.places; n_bound = c.up_to_filled-n.ensures.1 }
+    let n = c.up_to_filled-n.result in
+    record {
+      places_value = rw c.schema-schema.ensures.value (every_take (good_place (schema_of c.args.given)) n c.args.given.places good.places);
+      few = omega (arith, length-take n c.args.given.places, c.up_to_filled-n.ensures.1);
+    }
 
 pub returns-then-buffer-size : goal.returns-then-buffer-size
 returns-then-buffer-size c =
@@ -116,11 +123,12 @@ pub put_directory-requires : goal.put_directory-requires
 put_directory-requires c =
     let start' = (goal.at.put_directory-requires c).Start in
     let good = good-record c.args.given c.requires in
+    let n = c.up_to_filled-n.result in
+    let short = length-take n c.args.given.places in
     record {
-      places_value = rw c.schema-schema.ensures.value good.places;
-      n_bound =
-          (c.up_to_filled-n.ensures.1, omega (arith, counts start'), omega (arith, few-held start', c.joins_length.ensures.1));
-      n_in_bounds = omega (arith, c.if-buffer-size.false);
+      places_value = rw c.schema-schema.ensures.value (every_take (good_place (schema_of c.args.given)) n c.args.given.places good.places);
+      few = (omega (arith, short, c.up_to_filled-n.ensures.1), omega (arith, counts start'), omega (arith, few-held start', c.joins_length.ensures.1));
+      in_bounds = omega (arith, short, c.if-buffer-size.false);
     }
 
 pub put_parts-requires : goal.put_parts-requires
@@ -128,9 +136,10 @@ put_parts-requires c =
     let r = c.args.given in
     let n = c.up_to_filled-n.result in
     let k = known (goal.at.put_parts-requires c).After-places_length-others in
+    let same : length (take n r.places) ≡ n = length-take-le n r.places k.held in
     let run =
     first_run r c.requires k.widths-long k.list-long n c.up_to_filled-n.ensures.0 k.held c.joins_length.result c.places_length-others.result
-    c.joins_length.ensures.0 (rw c.schema-schema.ensures.value at c.places_length-others.ensures).0 c.args.buffer.now c.if-buffer-size.false c.put_directory.new.buffer (rw c.schema-schema.ensures.value at c.put_directory.ensures) in
+    c.joins_length.ensures.0 (rw c.schema-schema.ensures.value at c.places_length-others.ensures).0 c.args.buffer.now c.if-buffer-size.false c.put_directory.new.buffer (rw (c.schema-schema.ensures.value, same) at c.put_directory.ensures) in
     let l =
     parts r c.requires k.widths-long k.list-long n c.up_to_filled-n.ensures.0 k.held c.joins_length.result c.places_length-others.result
     c.joins_length.ensures.0 (rw c.schema-schema.ensures.value at c.places_length-others.ensures).0 in
@@ -150,9 +159,11 @@ ran c =
     let lp : length c.args.given.places ≡ 8 = search (mapped-length, rules) in
     let lw : length c.args.given.widths ≡ 8 = search (mapped-length, rules) in
     let ld : length c.args.given.dependencies ≡ 32 = search (mapped-length, rules) in
+    let n = c.up_to_filled-n.result in
+    let same : length (take n r.places) ≡ n = length-take-le n r.places (rw lp c.up_to_filled-n.ensures.1) in
     second_run r c.requires lw ld c.up_to_filled-n.result c.up_to_filled-n.ensures.0 (rw lp c.up_to_filled-n.ensures.1) c.joins_length.result
     c.places_length-others.result c.joins_length.ensures.0 (rw c.schema-schema.ensures.value at c.places_length-others.ensures).0 c.args.buffer.now c.if-buffer-size.false
-    c.put_directory.new.buffer (rw c.schema-schema.ensures.value at c.put_directory.ensures) c.put_parts.new.buffer c.put_parts.ensures
+    c.put_directory.new.buffer (rw (c.schema-schema.ensures.value, same) at c.put_directory.ensures) c.put_parts.new.buffer c.put_parts.ensures
 
 pub returns : goal.returns
 returns c =
