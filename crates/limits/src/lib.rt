@@ -23,6 +23,7 @@ use query::{
 use schema::Schema;
 
 // ---- arrays whose first elements are in use
+// Kept as it is: what is judged of an array is what is in use and that the rest is blank, so it comes whole, with the count beside it.
 
 // Whether the first n elements are good, and those after them blank.
 fn in_use<T, G: Fn(&T) -> bool, B: Fn(&T) -> bool>(xs: &[T], n: usize, good: G, blank: B) -> bool
@@ -53,6 +54,7 @@ fn cell_good(c: &Cell) -> bool
 }
 
 // Whether an entry is that of a cell not in use.
+// Kept as it is, with its likes below: a name for a derived `==`, whose clause is the definition that the rule names.
 fn cell_blank(c: &Cell) -> bool
     ensures { result ≡ blank_cell c.now }
 {

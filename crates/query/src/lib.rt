@@ -87,6 +87,7 @@ pub type Query = ConjunctiveQuery<12, 96>;
 pub type Tableau = ConjunctiveQuery<24, 192>;
 
 // A place for a query. A vacant one holds a query of zeros.
+// Kept as it is: it is no Option, since refusal 14 judges that a vacant place holds zeros.
 #[derive(Clone, Copy)]
 pub struct Place {
     pub filled: bool,

@@ -189,6 +189,7 @@ fn join_dependencies() -> [JoinDependency; 9] {
     ]
 }
 
+// Kept as it is: `adds` calls another method with cases of another type, and a closure for both would take as many lines.
 // Add the join dependency of each case. Where the record is good and holds fewer than 4, 15 is given for 2 to 8.
 fn joins(rt: &impl Print, r: Record) -> io::Result<()> {
     for (case, j) in join_dependencies().iter().enumerate() {
