@@ -30,7 +30,7 @@ pub enum Verdict {
 }
 
 // Two places to be read whose heads have one length, or the refusal, in the order of SPECIFICATION, Refusals.
-// Kept as it is: a lookup answers with the index or a refusal, and `let .. else` takes the index.
+// Kept as it is: a place lookup taken apart by `let .. else` is a form of the project's scope.
 fn filled_pair(given: Record, p: usize, q: usize) -> Result<(usize, usize), Refusal>
     ensures { reply_of result ≡ looked_up given p q }
 {
