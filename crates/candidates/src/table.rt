@@ -60,12 +60,9 @@ pub fn repeats(target: &[u32], offered: [u8; 24], d: usize) -> bool
     requires { (length target.now ≡ 200) × (d < 24) }
     ensures { Tells result (Repeats target.now offered d) }
 {
-    // Kept as it is: the index serves both the relations and the target's rows, which start 8 apart.
-    for e in 0..d {
-        if offered[e] == offered[d] {
-            if same_row(target, 8 * e, 8 * d) {
-                return true;
-            }
+    for (e, &relation) in offered[..d].iter().enumerate() {
+        if relation == offered[d] && same_row(target, 8 * e, 8 * d) {
+            return true;
         }
     }
     false
