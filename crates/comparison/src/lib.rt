@@ -73,9 +73,7 @@ fn compare_places(given: Record, p: usize, q: usize) -> Result<Verdict, Refusal>
         &given.dependencies[..given.held as usize],
         &given.joins[..given.joined as usize],
     );
-    let Some(query) = chased else {
-        return Err(Refusal::TooManyRows);
-    };
+    let query = chased.ok_or(Refusal::TooManyRows)?;
     if query.size == 0 {
         return Ok(Verdict::Never);
     }
