@@ -1,11 +1,11 @@
 // What the search is given: the candidates of each row, and which candidates of one row go together with a candidate of another. Rows 0 to size - 1
 // are the source's rows, whose candidates are the target's rows; row `size` is its head, whose one candidate is the target's head.
+// Kept as it is: that there are at most 12 rows is a fact about a number, as in `consistency`.
 ghost use Rattle.std.specs.Prelude.{◌≡◌, false, ℕ, ◌+◌, ◌≤◌, ◌<◌, length};
 ghost use Rattle.lists.specs.internal.Tells.{Tells};
 ghost use Rattle.candidates.specs.internal.Candidates.{Marks, Repeats, row_start, image_start, candidates_of, Laid, Together, Possible, IsDomain, IsTable};
 ghost use Rattle.candidates.specs.internal.Sharing.{Shares, IsPair, Keeps};
 
-// Kept as it is: that there are at most 12 rows is a fact about a number, as in `consistency`.
 use crate::agree::{agrees, fixes, same_row, shares};
 use crate::marks::{all_below, marks_where};
 
@@ -34,7 +34,7 @@ fn candidates(size: usize, count: usize, r: usize) -> usize
 }
 
 // The candidates of row q that go together with candidate d of row r.
-// Kept as it is: source, target, size and count stay parameters: of a struct of slices a contract would say `ends.entry.source.now` for `source.now`.
+// Kept as it is: source, target, size and count stay parameters: what is called below reads one or two of the four, and would be handed them one by one.
 fn together(
     source: &[u32],
     target: &[u32],
@@ -60,12 +60,9 @@ pub fn repeats(target: &[u32], offered: [u8; 24], d: usize) -> bool
     requires { (length target.now ≡ 200) × (d < 24) }
     ensures { Tells result (Repeats target.now offered d) }
 {
-    // Kept as it is: the index serves both the relations and the target's rows, which start 8 apart.
-    for e in 0..d {
-        if offered[e] == offered[d] {
-            if same_row(target, 8 * e, 8 * d) {
-                return true;
-            }
+    for (e, &relation) in offered[..d].iter().enumerate() {
+        if relation == offered[d] && same_row(target, 8 * e, 8 * d) {
+            return true;
         }
     }
     false
@@ -120,6 +117,7 @@ fn domain(
 }
 
 // The candidates of every row.
+// Kept as it is: named and offered come whole beside size and count, which say how many rows of the codes are in use too: slices would say it twice.
 pub fn domains(
     source: &[u32],
     target: &[u32],

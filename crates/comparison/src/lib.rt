@@ -30,7 +30,7 @@ pub enum Verdict {
 }
 
 // Two places to be read whose heads have one length, or the refusal, in the order of SPECIFICATION, Refusals.
-// Kept as it is: a lookup answers with the index or a refusal, and `let .. else` takes the index.
+// Kept as it is: a place lookup taken apart by `let .. else` is a form of the project's scope.
 fn filled_pair(given: Record, p: usize, q: usize) -> Result<(usize, usize), Refusal>
     ensures { reply_of result ≡ looked_up given p q }
 {
@@ -73,9 +73,7 @@ fn compare_places(given: Record, p: usize, q: usize) -> Result<Verdict, Refusal>
         &given.dependencies[..given.held as usize],
         &given.joins[..given.joined as usize],
     );
-    let Some(query) = chased else {
-        return Err(Refusal::TooManyRows);
-    };
+    let query = chased.ok_or(Refusal::TooManyRows)?;
     if query.size == 0 {
         return Ok(Verdict::Never);
     }

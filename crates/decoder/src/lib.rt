@@ -29,9 +29,7 @@ pub fn read_place(part: &[u8], last: bool, schema: Schema) -> Result<Place, Refu
         }
         return Ok(no_place());
     }
-    let Some((query, rest)) = read_query(part, schema) else {
-        return Err(Refusal::BadQuery);
-    };
+    let (query, rest) = read_query(part, schema).ok_or(Refusal::BadQuery)?;
     let safe = schema.head_safe(query);
     // a byte too many is asked before the head is judged
     if !rest.is_empty() {

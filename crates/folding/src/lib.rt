@@ -19,6 +19,7 @@ use query::{Cell, Query};
 use search::solve_linked;
 
 // The candidates of each row that are left. The head keeps its own.
+// Kept as it is: that there are at most 12 rows is a fact about a number, as in `consistency`.
 fn among(domain: &[u32; 13], size: usize, left: u32) -> [u32; 13]
     requires { size ≤ 12 }
     ensures { Among domain.now size left result }
@@ -31,6 +32,7 @@ fn among(domain: &[u32; 13], size: usize, left: u32) -> [u32; 13]
 }
 
 // Whether the query can be mapped into the rows that are left.
+// Kept as it is: domain, pairs, links and size stay parameters: `kept` alone makes them, the search takes them one by one, and the domain is another here.
 fn folds(domain: &[u32; 13], pairs: &[u32; 4056], links: &[u16; 13], size: usize, left: u32) -> bool
     requires { size ≤ 12 }
     ensures { Tells result (FoldsInto domain.now pairs.now size (Bit left)) }

@@ -17,7 +17,7 @@ pub fn assign_row(
     ensures { RowAssigned images source.now target.now row image 8 result }
 {
     let mut out = images;
-    // Kept as it is: the index serves two arrays that start at different places.
+    // Kept as it is: a `for` over a `zip` of two slices was tried; its proof has two iterators in place of the index, and did not close.
     for i in 0..8 {
         let own = Entry::from(source[row + i]);
         match own {

@@ -78,6 +78,7 @@ pub fn all_land(
 }
 
 // Whether variable v stands among the cells.
+// Kept as it is: `cells_have` of `limits` and `stands` of `replacement` are private one-line chains like it, and a call across crates would be no shorter.
 pub fn stands(cells: &[Cell; 104], v: u8) -> bool
     ensures { Tells result (Stands cells.now v) }
 {

@@ -1,5 +1,5 @@
 -- `comparison::compare_places` meets its contract: each answer is one of the cases of `Answers`. Assumes nothing.
-use mathlib.Core.Path.{◌≡◌, sym, ap, subst, ◌∙◌}
+use mathlib.Core.Path.{◌≡◌, refl, sym, ap, subst, ◌∙◌}
 use mathlib.Core.Bool.{true}
 use lib.ListN.{length, take}
 use borrow.Author.Rules.{rules}
@@ -15,8 +15,20 @@ use Rattle.mapping.specs.internal.Mapped.{Storable, Finds}
 use Rattle.record.specs.View.{schema_of}
 use Rattle.comparison.proofs.Pairs.{standing}
 use Rattle.comparison.proofs.Answers.{can-be-chased, parts-within, answers-over, both-storable, answers-never, answers-contained, answers-apart}
+use Rattle.std.specs.Prelude.{Option as Maybe, None, Some, Ok, Err, ok_or}
+use Rattle.std.proofs.lemmas.Result.{err_from_is_err_and}
+use Rattle.refusals.specs.declared.Refusal.{Refusal}
 use Rattle.comparison.proofs.compare_places.Goals as goal
-use Rattle.comparison.proofs.compare_places.Goals.{After-from_query, After-chase-chased, In-Some}
+use Rattle.comparison.proofs.compare_places.Goals.{After-from_query, After-chase-chased, In_ok-query}
+
+-- What an answer in place of none tells
+found : {T : Type 0} (o : Maybe T) (e : Refusal) (x : T) → ok_or o e ≡ Ok x → o ≡ Some x
+found None e x h = cc
+found (Some y) e x h = let same : y ≡ x = cc in ap (λ z. Some z) same
+
+missing : {T : Type 0} (o : Maybe T) (e w : Refusal) → ok_or o e ≡ Err w → (o ≡ None) × (w ≡ e)
+missing None e w h = (refl, cc)
+missing (Some y) e w h = cc
 
 pub stored-requires : goal.stored-requires
 stored-requires c = (standing c.args.given c.args.p c.args.q c.requires).low-p
@@ -68,22 +80,25 @@ chased : (c : After-chase-chased)
 chased c = rw (c.from_query.ensures ∙ ap tableau_of c.stored.ensures) at c.chase-chased.ensures
 
 -- The chased tableau has room for 24 rows
-room : (c : In-Some) → length c.in-Some.query.relations ≡ 24
+room : (c : In_ok-query) → length c.in_ok-query.query.relations ≡ 24
 room c = search (mapped-length, rules)
 
-pub returns-in_default-clause-compared : goal.returns-in_default-clause-compared
-returns-in_default-clause-compared c =
+pub returns-in_err-query-clause-compared : goal.returns-in_err-query-clause-compared
+returns-in_err-query-clause-compared c =
     let a = c.args in
-    let from = (goal.at.returns-in_default-clause-compared c).After-from_query in
-    let after = (goal.at.returns-in_default-clause-compared c).After-chase-chased in
-    answers-over a.given a.p a.q c.requires (sized from) (shaped from) c.chase-chased.result (chased after) c.in_default.is
+    let from = (goal.at.returns-in_err-query-clause-compared c).After-from_query in
+    let after = (goal.at.returns-in_err-query-clause-compared c).After-chase-chased in
+    let left = err_from_is_err_and c.from_residual.result c.from_residual.ensures.1 in
+    let none = missing _ _ _ (sym c.ok_or.ensures.value ∙ c.in_err-query.was) in
+    rw (left.1, left.2, none.1)
+    (answers-over a.given a.p a.q c.requires (sized from) (shaped from) c.chase-chased.result (chased after) none.0)
 
 pub returns-then-query-eq0-clause-compared : goal.returns-then-query-eq0-clause-compared
 returns-then-query-eq0-clause-compared c =
     let a = c.args in
     let from = (goal.at.returns-then-query-eq0-clause-compared c).After-from_query in
     let after = (goal.at.returns-then-query-eq0-clause-compared c).After-chase-chased in
-    answers-never a.given a.p a.q c.requires (sized from) (shaped from) c.chase-chased.result (chased after) c.in-Some.query c.in-Some.is
+    answers-never a.given a.p a.q c.requires (sized from) (shaped from) c.chase-chased.result (chased after) c.in_ok-query.query (found _ _ _ (sym c.ok_or.ensures.value ∙ c.in_ok-query.was))
     c.if-query-eq0.true
 
 pub stored-requires-2 : goal.stored-requires-2
@@ -94,24 +109,24 @@ find-requires c =
     let a = c.args in
     let from = (goal.at.find-requires c).After-from_query in
     let after = (goal.at.find-requires c).After-chase-chased in
-    let both = both-storable a.given a.p a.q c.requires (sized from) (shaped from) c.chase-chased.result (chased after) c.in-Some.query c.in-Some.is in
+    let both = both-storable a.given a.p a.q c.requires (sized from) (shaped from) c.chase-chased.result (chased after) c.in_ok-query.query (found _ _ _ (sym c.ok_or.ensures.value ∙ c.in_ok-query.was)) in
     (subst Storable (sym c.stored-2.ensures) both.0, both.1)
 
-pub returns-in-Some-find-clause-compared : goal.returns-in-Some-find-clause-compared
-returns-in-Some-find-clause-compared c =
+pub returns-in-Some-clause-compared : goal.returns-in-Some-clause-compared
+returns-in-Some-clause-compared c =
     let a = c.args in
-    let from = (goal.at.returns-in-Some-find-clause-compared c).After-from_query in
-    let after = (goal.at.returns-in-Some-find-clause-compared c).After-chase-chased in
+    let from = (goal.at.returns-in-Some-clause-compared c).After-from_query in
+    let after = (goal.at.returns-in-Some-clause-compared c).After-chase-chased in
     -- what the search for a mapping promises, from the second query
-    let finds : Finds (stored_at a.given a.q) c.in-Some.query c.find.result = rw c.stored-2.ensures at c.find.ensures in
-    answers-contained a.given a.p a.q c.requires (sized from) (shaped from) c.chase-chased.result (chased after) c.in-Some.query c.in-Some.is
-    c.find.result finds c.in-Some-find.images c.in-Some-find.is
+    let finds : Finds (stored_at a.given a.q) c.in_ok-query.query c.find.result = rw c.stored-2.ensures at c.find.ensures in
+    answers-contained a.given a.p a.q c.requires (sized from) (shaped from) c.chase-chased.result (chased after) c.in_ok-query.query (found _ _ _ (sym c.ok_or.ensures.value ∙ c.in_ok-query.was))
+    c.find.result finds c.in-Some.images c.in-Some.is
 
 pub returns-in-None-clause-compared : goal.returns-in-None-clause-compared
 returns-in-None-clause-compared c =
     let a = c.args in
     let from = (goal.at.returns-in-None-clause-compared c).After-from_query in
     let after = (goal.at.returns-in-None-clause-compared c).After-chase-chased in
-    let finds : Finds (stored_at a.given a.q) c.in-Some.query c.find.result = rw c.stored-2.ensures at c.find.ensures in
-    answers-apart a.given a.p a.q c.requires (sized from) (shaped from) c.chase-chased.result (chased after) c.in-Some.query c.in-Some.is
-    c.find.result finds (room (goal.at.returns-in-None-clause-compared c).In-Some) c.if-query-eq0.false c.in-None.is
+    let finds : Finds (stored_at a.given a.q) c.in_ok-query.query c.find.result = rw c.stored-2.ensures at c.find.ensures in
+    answers-apart a.given a.p a.q c.requires (sized from) (shaped from) c.chase-chased.result (chased after) c.in_ok-query.query (found _ _ _ (sym c.ok_or.ensures.value ∙ c.in_ok-query.was))
+    c.find.result finds (room (goal.at.returns-in-None-clause-compared c).In_ok-query) c.if-query-eq0.false c.in-None.is

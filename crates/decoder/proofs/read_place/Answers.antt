@@ -19,7 +19,20 @@ use Rattle.format.proofs.Parts.{Narrow, query-lawful}
 use Rattle.format.proofs.Rules.{good-query, good-narrow}
 use Rattle.limits.specs.Schema.{widths_in}
 use Rattle.parsing.specs.internal.Read.{reading_of}
+use Rattle.std.specs.Prelude.{Option as Maybe, None, Some, Ok, Err, ok_or}
+use Rattle.std.proofs.lemmas.Result.{err_from_is_err_and}
+use Rattle.refusals.specs.declared.Refusal.{Refusal}
 use Rattle.decoder.proofs.read_place.Goals as goal
+
+-- ---- what an answer in place of none tells
+
+found : {T : Type 0} (o : Maybe T) (e : Refusal) (x : T) → ok_or o e ≡ Ok x → o ≡ Some x
+found None e x h = cc
+found (Some y) e x h = let same : y ≡ x = cc in ap (λ z. Some z) same
+
+missing : {T : Type 0} (o : Maybe T) (e w : Refusal) → ok_or o e ≡ Err w → (o ≡ None) × (w ≡ e)
+missing None e w h = (refl, cc)
+missing (Some y) e w h = cc
 
 -- ---- a query and the bytes after it
 
@@ -77,34 +90,37 @@ returns-then-is_vacant c =
     ∙ sym ((vacant-place (widths_in c.args.schema) c.args.part.now c.args.last
     (sym c.is_vacant.ensures ∙ c.if-is_vacant.true) c.if-last.false))
 
-pub returns-in_default : goal.returns-in_default
-returns-in_default c =
+pub returns-in_err-query : goal.returns-in_err-query
+returns-in_err-query c =
     let v = sym c.is_vacant.ensures ∙ c.if-is_vacant.false in
-    sym (bad-query (widths_in c.args.schema) c.args.part.now c.args.last v (sym c.read_query.ensures ∙ ap reading_of c.in_default.is))
+    let left = err_from_is_err_and c.from_residual.result c.from_residual.ensures.1 in
+    let none = missing _ _ _ (sym c.ok_or.ensures.value ∙ c.in_err-query.was) in
+    rw (left.1, left.2, none.1)
+    (sym (bad-query (widths_in c.args.schema) c.args.part.now c.args.last v (sym c.read_query.ensures ∙ ap reading_of none.0)))
 
 pub head_safe-safe-requires : goal.head_safe-safe-requires
 head_safe-safe-requires c =
     let part = c.args.part.now in
     let bytes = bytes-known part (λ i. (c.type_inv.part i).fits) in
-    read-sizes (widths_in c.args.schema) part c.in-Some.query c.in-Some.rest.now (good-narrow c.args.schema.relations c.args.schema.widths c.args.schema.good) bytes
-    (sym c.read_query.ensures ∙ ap reading_of c.in-Some.is)
+    read-sizes (widths_in c.args.schema) part c.in_ok-query.query c.in_ok-query.rest.now (good-narrow c.args.schema.relations c.args.schema.widths c.args.schema.good) bytes
+    (sym c.read_query.ensures ∙ ap reading_of (found _ _ _ (sym c.ok_or.ensures.value ∙ c.in_ok-query.was)))
 
 pub returns-then-not-is_empty : goal.returns-then-not-is_empty
 returns-then-not-is_empty c =
     let v = sym c.is_vacant.ensures ∙ c.if-is_vacant.false in
-    sym (long-query (widths_in c.args.schema) c.args.part.now c.args.last v c.in-Some.query c.in-Some.rest.now
-    (sym c.read_query.ensures ∙ ap reading_of c.in-Some.is) (sym c.is_empty.ensures ∙ c.if-not-is_empty.true))
+    sym (long-query (widths_in c.args.schema) c.args.part.now c.args.last v c.in_ok-query.query c.in_ok-query.rest.now
+    (sym c.read_query.ensures ∙ ap reading_of (found _ _ _ (sym c.ok_or.ensures.value ∙ c.in_ok-query.was))) (sym c.is_empty.ensures ∙ c.if-not-is_empty.true))
 
 pub returns-then-safe : goal.returns-then-safe
 returns-then-safe c =
     let v = sym c.is_vacant.ensures ∙ c.if-is_vacant.false in
-    sym (good-query-part (widths_in c.args.schema) c.args.part.now c.args.last v c.in-Some.query c.in-Some.rest.now
-    (sym c.read_query.ensures ∙ ap reading_of c.in-Some.is) true (sym c.is_empty.ensures ∙ c.if-not-is_empty.false)
+    sym (good-query-part (widths_in c.args.schema) c.args.part.now c.args.last v c.in_ok-query.query c.in_ok-query.rest.now
+    (sym c.read_query.ensures ∙ ap reading_of (found _ _ _ (sym c.ok_or.ensures.value ∙ c.in_ok-query.was))) true (sym c.is_empty.ensures ∙ c.if-not-is_empty.false)
     (sym c.head_safe-safe.ensures ∙ c.if-safe.true))
 
 pub returns : goal.returns
 returns c =
     let v = sym c.is_vacant.ensures ∙ c.if-is_vacant.false in
-    sym (good-query-part (widths_in c.args.schema) c.args.part.now c.args.last v c.in-Some.query c.in-Some.rest.now
-    (sym c.read_query.ensures ∙ ap reading_of c.in-Some.is) false (sym c.is_empty.ensures ∙ c.if-not-is_empty.false)
+    sym (good-query-part (widths_in c.args.schema) c.args.part.now c.args.last v c.in_ok-query.query c.in_ok-query.rest.now
+    (sym c.read_query.ensures ∙ ap reading_of (found _ _ _ (sym c.ok_or.ensures.value ∙ c.in_ok-query.was))) false (sym c.is_empty.ensures ∙ c.if-not-is_empty.false)
     (sym c.head_safe-safe.ensures ∙ c.if-safe.false))

@@ -1,11 +1,11 @@
 -- `repeats` tells whether a row is the same as an earlier one. The invariant: as none of those passed.
 -- Assumes nothing.
 use mathlib.Core.Path.{◌≡◌}
-use Prim.Native.Nat.{ℕ, ◌*◌, ◌≤◌, ◌<◌}
+use Prim.Native.Nat.{ℕ, ◌*◌, ◌<◌}
 use lib.ListN.{get_or}
 use Rattle.candidates.specs.internal.Candidates.{SameRow}
 use Rattle.candidates.proofs.table.repeats.Given as goal
 
 abbrev pub invariant-loop-e : goal.invariant-loop-e
 invariant-loop-e l =
-    (l.e ≤ l.d) × ((k : ℕ) → k < l.e → get_or l.offered k 0 ≡ get_or l.offered l.d 0 → SameRow l.target (8 * k) (8 * l.d) → ⊥)
+    (k : ℕ) → k < l.e → get_or l.relation-items k 0 ≡ get_or l.fn.offered l.d 0 → SameRow l.target (8 * k) (8 * l.d) → ⊥
