@@ -16,6 +16,7 @@ pub const FREE: u32 = u32::MAX;
 
 // Whether two rows have the same codes in the columns of a set.
 // Kept as it is: that a row is below 24 is a fact about a number, and a type of its own would be taken apart at each index.
+// Kept as it is: `first_step::agree` has this body on marks of 64 bits; for one line a generic function would ask for a crate below both and a law of `==`.
 fn same_on(codes: &[u32; 192], set: u8, i: usize, e: usize) -> bool
     requires { (i < 24) × (e < 24) }
     ensures { result ≡ same_on codes.now set i e }

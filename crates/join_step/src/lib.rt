@@ -18,6 +18,7 @@ pub struct NextRow {
 }
 
 // The codes of cells.
+// Kept as it is: `mapping::cells::codes` has this body; it stands above this crate, and speaks of the cells in the form that a mapping needs.
 fn codes_of(cells: [Cell; 192]) -> [u32; 192]
     ensures { result ≡ codes_of cells }
 {

@@ -45,7 +45,7 @@ fn search(tables: &Tables, k: usize, filled: u8, values: [u32; 8]) -> Option<[us
     let set = tables.j.sets[k];
     let shared = set & filled;
     let mut at = join_lookup::start(words, schema, x, k + 1, shared, values, tables.heads);
-    // Kept as it is: a chain goes by its links, so that no iterator stands for it.
+    // Kept as it is: an iterator over a chain would be a struct more, with three clauses and their proofs, for this one loop.
     while at < words.len() {
         if join_lookup::has(words, schema, x, at, shared, values) {
             let row = join_lookup::with_row(words, x, at, set, values);
