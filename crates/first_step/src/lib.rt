@@ -29,8 +29,8 @@ fn marks_of(cells: [Cell; 192]) -> [u64; 192]
 {
     // Kept as it is: `cells.map(..)` takes eight times as many instructions.
     let mut marks = [0u64; 192];
-    for k in 0..192 {
-        marks[k] = mark(cells[k].entry);
+    for (k, cell) in cells.iter().enumerate() {
+        marks[k] = mark(cell.entry);
     }
     marks
 }

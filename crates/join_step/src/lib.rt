@@ -24,8 +24,8 @@ fn codes_of(cells: [Cell; 192]) -> [u32; 192]
 {
     // Kept as it is: `cells.map(..)` takes eight times as many instructions.
     let mut codes = [0u32; 192];
-    for k in 0..192 {
-        codes[k] = u32::from(cells[k].entry);
+    for (k, cell) in cells.iter().enumerate() {
+        codes[k] = u32::from(cell.entry);
     }
     codes
 }
