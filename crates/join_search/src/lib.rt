@@ -96,8 +96,8 @@ fn firsts(codes: &[u32; 192], relations: &[u8; 24], j: JoinDependency) -> [bool;
 {
     // Kept as it is: of `array::from_fn` the clauses do not say that each call finds what the closure captured, so its proof does not close.
     let mut tried = [false; 96];
-    for t in 0..96 {
-        tried[t] = is_first(codes, relations, j.relation, j.sets[t / 24], t % 24);
+    for (t, tried) in tried.iter_mut().enumerate() {
+        *tried = is_first(codes, relations, j.relation, j.sets[t / 24], t % 24);
     }
     tried
 }

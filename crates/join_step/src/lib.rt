@@ -109,9 +109,7 @@ pub fn without_repeats(t: Tableau) -> Tableau
         cells: [query::NO_CELL; 192],
         ..t
     };
-    // Kept as it is: i is the position of a relation, of a row's cells and of the row that `is_first` looks back from.
-    for i in 0..size {
-        let relation = t.relations[i];
+    for (i, &relation) in t.relations[..size].iter().enumerate() {
         if is_first(&codes, &t.relations, relation, 255, i) {
             kept = with_row(kept, relation, row_at(t.cells, i));
         }
