@@ -39,10 +39,9 @@ pub fn bucket(columns: u8, values: [u32; 8], width: usize, buckets: usize) -> us
     ensures { (result ≡ bucket_of buckets columns (take width values)) × (result < buckets) }
 {
     let mut h: u64 = 0;
-    // Kept as it is: c is a bit of the set and a place in `values`.
-    for c in 0..width {
+    for (c, &x) in values[..width].iter().enumerate() {
         if words::has_column(columns, c) {
-            h = (h * 2654435769 + values[c] as u64) % 4294967296;
+            h = (h * 2654435769 + u64::from(x)) % 4294967296;
         }
     }
     let spread = h * 2654435769 % 4294967296;
