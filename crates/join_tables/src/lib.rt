@@ -144,9 +144,7 @@ fn fill(
     thread(words, schema, nodes);
     let count = j.count as usize;
     let mut filled: u8 = 0;
-    // Kept as it is: k is the table that is made as well as the set that it is made for.
-    for k in 0..count {
-        let set = j.sets[k];
+    for (k, &set) in j.sets[..count].iter().enumerate() {
         enter_set(words, schema, x, k, set, set & filled, heads, nodes);
         filled |= set;
     }
