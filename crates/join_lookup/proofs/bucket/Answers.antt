@@ -8,7 +8,6 @@ use native.Mathlib.Omega.{arith}
 use mir.Val.{Fits}
 use mir.Syntax.{w32}
 use lib.ListN.{length, take, get_or}
-use lib.Seq.{get_or-take, length-take-le}
 use Rattle.tables.specs.internal.Table.{mixed}
 use Rattle.tables.proofs.Buckets.{shifted, mixed_at, mixed-start, mixed-take, mixed-skip, mixed-end}
 use borrow.Author.Tests.{eqb-true, eq-eqb}
@@ -21,7 +20,7 @@ loop-c-init c = (omega arith, ap (λ (m : ℕ). mixed_at c.args.values c.args.wi
 
 pub overflow_add-h : goal.overflow_add-h
 overflow_add-h c =
-    let small : Fits w32 (get_or (take c.args.width c.args.values) c.loop-c.c 0) = search rules in
+    let small : Fits w32 (get_or c.args.values c.loop-c.c 0) = search rules in
     omega (arith, small.fits)
 
 pub loop-c-preserved : goal.loop-c-preserved
@@ -32,22 +31,18 @@ loop-c-preserved c =
     let left : ℕ = a.columns / 2 ^ l.c in
     let size : length xs ≡ 8 = search rules in
     let wide : a.width ≤ length xs = omega (arith, c.requires.0) in
-    let long : length (take a.width xs) ≡ a.width = length-take-le a.width xs wide in
-    let low : l.c < a.width = omega arith in
-    let x : ℕ = get_or (take a.width xs) l.c 0 in
-    let at : x ≡ get_or xs l.c 0 = get_or-take a.width xs l.c 0 low in
+    let x : ℕ = get_or xs l.c 0 in
     let on : mixed_at xs a.width (l.c + 1) (left / 2) c.if-has_column.h ≡ mixed_at xs a.width (l.c + 1) (a.columns / 2 ^ (l.c + 1)) c.if-has_column.h =
     ap (λ (m : ℕ). mixed_at xs a.width (l.c + 1) m c.if-has_column.h) (shifted a.columns l.c) in
     elim c.if-has_column.branch [
-      | then-has_column w ↦ let e : c.if-has_column.h ≡ (l.h * 2654435769 + x) % 4294967296 =
-          w.h-is ∙ ap (λ (n : ℕ). (l.h * 2654435769 + n) % 4294967296) w.from.ensures in (
+      | then-has_column w ↦ let e : c.if-has_column.h ≡ (l.h * 2654435769 + x) % 4294967296 = w.h-is in (
         omega (arith, mod-lt (l.h * 2654435769 + x) {m = 4294967296} (omega arith)),
-        l.invariant.1 ∙ (rw (sym at) at (mixed-take xs a.width l.c left l.h low wide (eqb-true _ 1 (sym c.has_column.ensures ∙ w.if-has_column.true))))
-            ∙ ap (mixed_at xs a.width (l.c + 1) (left / 2)) (sym e) ∙ on,
+        l.invariant.1 ∙ mixed-take xs a.width l.c left l.h c.loop-c-test.true wide (eqb-true _ 1 (sym c.has_column.ensures ∙ w.if-has_column.true))
+            ∙ ap (mixed_at xs a.width (l.c + 1) (left / 2)) (sym w.h-is) ∙ on,
       )
       | else-has_column w ↦ let e : c.if-has_column.h ≡ l.h = w.h-is in (
         omega arith,
-        l.invariant.1 ∙ mixed-skip xs a.width l.c left l.h low wide
+        l.invariant.1 ∙ mixed-skip xs a.width l.c left l.h c.loop-c-test.true wide
             (λ bit. false≢true (sym w.if-has_column.false ∙ c.has_column.ensures ∙ eq-eqb _ 1 bit))
             ∙ ap (mixed_at xs a.width (l.c + 1) (left / 2)) (sym w.h-is) ∙ on,
       )
@@ -69,10 +64,8 @@ pub returns : goal.returns
 returns c = let s = c in
     let a = s.args in
     let l = c.loop-c in
-    let size : length a.values ≡ 8 = search rules in
-    let long : length (take a.width a.values) ≡ a.width = length-take-le a.width a.values (omega (arith, c.requires.0)) in
     let e : mixed 0 a.columns (take a.width a.values) ≡ l.h =
-    mixed-start a.values a.width a.columns ∙ l.invariant.1 ∙ mixed-end a.values a.width l.c (a.columns / 2 ^ l.c) l.h (omega arith) in (
+    mixed-start a.values a.width a.columns ∙ l.invariant.1 ∙ mixed-end a.values a.width l.c (a.columns / 2 ^ l.c) l.h c.loop-c-test.false in (
       sym (ap (λ (x : ℕ). ((x * 2654435769) % 4294967296 * a.buckets) / 4294967296) e),
       (div-lt_iff_lt-mul {k = 4294967296} (omega arith)).1 (below (goal.at.returns c).After-loop-c),
     )

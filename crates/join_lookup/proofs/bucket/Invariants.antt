@@ -6,4 +6,4 @@ use Rattle.tables.proofs.Buckets.{mixed_at}
 use Rattle.join_lookup.proofs.bucket.Given as goal
 
 abbrev pub invariant-loop-c : goal.invariant-loop-c
-invariant-loop-c l = (l.h < 4294967296) × (mixed_at l.fn.values l.width 0 l.columns 0 ≡ mixed_at l.fn.values l.width l.c (l.columns / 2 ^ l.c) l.h)
+invariant-loop-c l = (l.h < 4294967296) × (mixed_at l.values l.width 0 l.columns 0 ≡ mixed_at l.values l.width l.c (l.columns / 2 ^ l.c) l.h)
