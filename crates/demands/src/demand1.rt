@@ -89,6 +89,7 @@ pub fn test(given: Record, words: &[u32]) -> Result<Option<Violation>, Refusal>
 }
 
 // The same in lent tables, which a refused test leaves as they were.
+// Kept as it is: the C interface lends each buffer apart.
 pub fn test_lent(
     given: Record,
     words: &[u32],
@@ -115,6 +116,7 @@ pub fn evaluate(
 }
 
 // The same in lent memory, which is as it was after every refusal but 10.
+// Kept as it is: the C interface lends each buffer apart.
 pub fn evaluate_lent(
     given: Record,
     place: usize,
@@ -142,6 +144,7 @@ pub fn count(given: Record, place: usize, words: &[u32]) -> Result<usize, Refusa
 }
 
 // The same in lent memory, which is as it was after every refusal but 10.
+// Kept as it is: the C interface lends each buffer apart.
 pub fn count_lent(
     given: Record,
     place: usize,

@@ -25,6 +25,7 @@ pub fn evaluate(
 }
 
 // The same in lent memory.
+// Kept as it is: the C interface lends each buffer apart.
 pub fn evaluate_lent(
     given: Record,
     place: usize,

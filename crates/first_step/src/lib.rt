@@ -29,13 +29,14 @@ fn marks_of(cells: [Cell; 192]) -> [u64; 192]
 {
     // Kept as it is: `cells.map(..)` takes eight times as many instructions.
     let mut marks = [0u64; 192];
-    for k in 0..192 {
-        marks[k] = mark(cells[k].entry);
+    for (k, cell) in cells.iter().enumerate() {
+        marks[k] = mark(cell.entry);
     }
     marks
 }
 
 // Whether the rows at i and j have the same mark in each column of the set, of whichever relations they are.
+// Kept as it is: `join_search::same_on` has this body on codes of 32 bits; for one line a generic function would ask for a crate below both and a law of `==`.
 fn agree(marks: &[u64; 192], left: u8, i: usize, j: usize) -> bool
     requires { (i < 24) × (j < 24) }
     ensures { IsTrue result ↔ AgreeOn left marks.now i j }

@@ -31,7 +31,7 @@ pub enum End<T> {
 
 // What a walk knows: how many leaders are entered, the position of the first row known that may be the first of a broken pair, and whether every row of
 // the relation was entered.
-// Kept as it is: `key` is no flag of `least`, since with no row known the left columns may be a key or none.
+// Kept as it is: an `End<usize>` in place of `least` and `key` would make of each `least.min(..)` a match on whether a row is known already.
 #[derive(Clone, Copy)]
 struct Walk {
     count: usize,
@@ -66,7 +66,7 @@ fn sought_of(words: &[u32], width: usize, d: Dependency, a: usize, buckets: usiz
     let mut tag: u64 = 0;
     let mut left = d.left;
     let mut c: usize = 0;
-    // Kept as it is: (d) the loop ends at the last column of the set, and a `for` over the columns would go on to the width for each row
+    // Kept as it is: the loop takes the set apart as it goes; a `for` to the last column would ask `leading_zeros` for that, and shift at each.
     while left != 0 {
         if left % 2 == 1 {
             let x = words::value(words, a, c) as u64;
@@ -92,7 +92,7 @@ fn compare(sought: Sought, heads: &[u32], nodes: &[u32], count: usize) -> Beside
 {
     let bucket = sought.bucket;
     let mut node = heads[bucket] as usize;
-    // Kept as it is: a chain goes by its links, so that no iterator stands for it.
+    // Kept as it is: an iterator over a chain would be a struct more, with three clauses and their proofs, for this one loop.
     while node != 0 {
         let s = 4 * (node - 1);
         if nodes[s + 3] == sought.tag {

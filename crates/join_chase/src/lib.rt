@@ -8,6 +8,7 @@ use join_step::{next_row, with_row, without_repeats};
 use query::{Dependency, JoinDependency, Tableau};
 
 // What a round of the chase makes of a tableau: the end, with the chased tableau or none where a row more than 24 would be added, or the tableau of the next round.
+// Kept as it is: `ControlFlow<Option<Tableau>, Tableau>` is this shape; its cases would not say that a round ends the chase or has a next tableau.
 #[derive(Clone, Copy)]
 enum Round {
     Ended(Option<Tableau>),

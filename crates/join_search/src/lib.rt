@@ -16,6 +16,7 @@ pub const FREE: u32 = u32::MAX;
 
 // Whether two rows have the same codes in the columns of a set.
 // Kept as it is: that a row is below 24 is a fact about a number, and a type of its own would be taken apart at each index.
+// Kept as it is: `first_step::agree` has this body on marks of 64 bits; for one line a generic function would ask for a crate below both and a law of `==`.
 fn same_on(codes: &[u32; 192], set: u8, i: usize, e: usize) -> bool
     requires { (i < 24) × (e < 24) }
     ensures { result ≡ same_on codes.now set i e }
@@ -95,8 +96,8 @@ fn firsts(codes: &[u32; 192], relations: &[u8; 24], j: JoinDependency) -> [bool;
 {
     // Kept as it is: of `array::from_fn` the clauses do not say that each call finds what the closure captured, so its proof does not close.
     let mut tried = [false; 96];
-    for t in 0..96 {
-        tried[t] = is_first(codes, relations, j.relation, j.sets[t / 24], t % 24);
+    for (t, tried) in tried.iter_mut().enumerate() {
+        *tried = is_first(codes, relations, j.relation, j.sets[t / 24], t % 24);
     }
     tried
 }

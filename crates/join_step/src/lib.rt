@@ -18,13 +18,14 @@ pub struct NextRow {
 }
 
 // The codes of cells.
+// Kept as it is: `mapping::cells::codes` has this body; it stands above this crate, and speaks of the cells in the form that a mapping needs.
 fn codes_of(cells: [Cell; 192]) -> [u32; 192]
     ensures { result ≡ codes_of cells }
 {
     // Kept as it is: `cells.map(..)` takes eight times as many instructions.
     let mut codes = [0u32; 192];
-    for k in 0..192 {
-        codes[k] = u32::from(cells[k].entry);
+    for (k, cell) in cells.iter().enumerate() {
+        codes[k] = u32::from(cell.entry);
     }
     codes
 }
@@ -68,6 +69,7 @@ pub fn next_row(t: Tableau, joins: &[JoinDependency]) -> Option<NextRow>
 }
 
 // The cells of row i.
+// Kept as it is: `chains::padded` takes five instructions more for each row.
 fn row_at(cells: [Cell; 192], i: usize) -> [Cell; 8]
     requires { i < 24 }
     ensures { result ≡ take 8 (drop (8 * i) cells) }
@@ -108,9 +110,7 @@ pub fn without_repeats(t: Tableau) -> Tableau
         cells: [query::NO_CELL; 192],
         ..t
     };
-    // Kept as it is: i is the position of a relation, of a row's cells and of the row that `is_first` looks back from.
-    for i in 0..size {
-        let relation = t.relations[i];
+    for (i, &relation) in t.relations[..size].iter().enumerate() {
         if is_first(&codes, &t.relations, relation, 255, i) {
             kept = with_row(kept, relation, row_at(t.cells, i));
         }

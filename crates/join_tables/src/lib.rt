@@ -14,6 +14,7 @@ use join_lookup::Index;
 use query::JoinDependency;
 
 // Makes the chains of table t empty: `end` is the end of the words.
+// Kept as it is: `heads` and `nodes` are written here, so that a struct like `Tables` of `join_testing`, which only reads, would hold two `&mut` slices.
 fn clear(heads: &mut [u32], t: usize, buckets: usize, end: u32)
     requires { (t < 5) × (5 * buckets ≤ length heads.old) }
     ensures heads_len_unchanged { length heads.new ≡ length heads.old }
@@ -96,7 +97,7 @@ fn enter(
 {
     clear(heads, t, x.buckets, words.len() as u32);
     let mut at = words.len();
-    // Kept as it is: from the last row to the first by the links, so that no iterator stands for it.
+    // Kept as it is: an iterator over the links, from last to first, would be a struct more, with three clauses and their proofs, for this one loop.
     while at != 0 {
         at = nodes[6 * (at - 1)] as usize;
         enter_row(words, schema, x, t, columns, set, at, heads, nodes);
@@ -143,9 +144,7 @@ fn fill(
     thread(words, schema, nodes);
     let count = j.count as usize;
     let mut filled: u8 = 0;
-    // Kept as it is: k is the table that is made as well as the set that it is made for.
-    for k in 0..count {
-        let set = j.sets[k];
+    for (k, &set) in j.sets[..count].iter().enumerate() {
         enter_set(words, schema, x, k, set, set & filled, heads, nodes);
         filled |= set;
     }

@@ -45,7 +45,7 @@ fn search(tables: &Tables, k: usize, filled: u8, values: [u32; 8]) -> Option<[us
     let set = tables.j.sets[k];
     let shared = set & filled;
     let mut at = join_lookup::start(words, schema, x, k + 1, shared, values, tables.heads);
-    // Kept as it is: a chain goes by its links, so that no iterator stands for it.
+    // Kept as it is: an iterator over a chain would be a struct more, with three clauses and their proofs, for this one loop.
     while at < words.len() {
         if join_lookup::has(words, schema, x, at, shared, values) {
             let row = join_lookup::with_row(words, x, at, set, values);
@@ -119,6 +119,7 @@ fn first_choice(
     ensures { result ≡ rows_chosen (first_choice schema.now (join_of j) (database_of schema.now words.now)) }
 {
     let at = choose(words, schema, j, 0, 0, [0; 8], heads, nodes)?;
+    // Kept as it is: of `at.map(..)` the proof did not close: for a closure that asks something the library has a lemma over ranges, and none over arrays.
     let a = join_lookup::position_of(words, schema, at[0]);
     let b = join_lookup::position_of(words, schema, at[1]);
     let c = join_lookup::position_of(words, schema, at[2]);

@@ -19,6 +19,7 @@ pub struct Replacement {
 }
 
 // Whether variable v stands in some cells.
+// Kept as it is: an entry taken apart by `match` is a form of the project's scope in the chase.
 fn stands(cells: &[Cell], v: u8) -> bool
     ensures { result ≡ list_any (holds_variable v) cells.now }
 {

@@ -152,7 +152,7 @@ pub enum Violation {
 }
 
 // The first row that breaks the dependency with the row at `a`, among the rows from `from` on.
-// Kept as it is: that a dependency fits the schema is a fact of both, and which schema is a parameter.
+// Kept as it is: `testing` reads schema, words and dependency apart in one loop, so that a struct of them would be made for this call and taken apart in it.
 pub fn first_partner(
     schema: &[u8],
     words: &[u32],

@@ -7,4 +7,4 @@ use Rattle.first_step.specs.internal.Marks.{mark_of}
 use Rattle.first_step.proofs.marks_of.Given as goal
 
 abbrev pub invariant-loop-k : goal.invariant-loop-k
-invariant-loop-k l = (l.k ≤ 192) × (length l.marks ≡ 192) × ((j : ℕ) → j < l.k → get_or l.marks j 0 ≡ mark_of (get_or l.cells j no_cell).entry)
+invariant-loop-k l = (l.k ≤ 192) × (length l.marks ≡ 192) × ((j : ℕ) → j < l.k → get_or l.marks j 0 ≡ mark_of (get_or l.fn.cells j no_cell).entry)

@@ -15,5 +15,4 @@ abbrev pub Right : List ℕ → List ℕ → JoinDependency → ℕ → Bool →
 Right codes relations j t b = b ≡ is_first codes relations j.relation (get_or j.sets (t / 24) 0) (t % 24)
 
 abbrev pub invariant-loop-t : goal.invariant-loop-t
-invariant-loop-t l =
-    (l.t ≤ 96) × (length l.tried ≡ 96) × ((s : ℕ) → s < l.t → Right l.codes l.relations l.j s (get_or l.tried s false))
+invariant-loop-t l = (length l.tried-items ≡ 96) × ((s : ℕ) → s < l.t → Right l.codes l.relations l.j s (get_or l.tried-items s false))

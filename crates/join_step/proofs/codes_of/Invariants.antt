@@ -7,4 +7,4 @@ use Rattle.join_step.specs.internal.Step.{codes_of}
 use Rattle.join_step.proofs.codes_of.Given as goal
 
 abbrev pub invariant-loop-k : goal.invariant-loop-k
-invariant-loop-k l = (length l.cells ≡ 192) × (l.k ≤ 192) × (l.codes ≡ filled_to 192 0 (codes_of l.cells) l.k)
+invariant-loop-k l = (length l.fn.cells ≡ 192) × (l.k ≤ 192) × (l.codes ≡ filled_to 192 0 (codes_of l.fn.cells) l.k)

@@ -5,6 +5,7 @@ use mathlib.Core.List.{List}
 use Prim.Native.Nat.{ℕ, ◌*◌}
 use native.Mathlib.Omega.{arith}
 use lib.ListN.{take, drop, get_or}
+use lib.Seq.{get_or-take}
 use borrow.Author.Rules.{rules}
 use Rattle.query.specs.Types.{Tableau}
 use Rattle.join_search.specs.internal.Search.{is_first}
@@ -32,13 +33,15 @@ loop-i-preserved c =
     let t = s.args.t in
     let l = c.loop-i in
     let row = take 8 (drop (8 * l.i) t.cells) in
-    let first = c.is_first.ensures
+    let at : get_or (take t.size t.relations) l.i 0 ≡ get_or t.relations l.i 0 = get_or-take t.size t.relations l.i 0 (omega arith) in
+    let first = c.is_first.ensures ∙ ap (λ (r : ℕ). is_first c.codes_of-codes.result t.relations r 255 l.i) at
     ∙ ap (λ (n : List ℕ). is_first n t.relations (get_or t.relations l.i 0) 255 l.i) l.invariant.1 in (
       search rules,
       l.invariant.1,
       elim c.if-is_first.branch [
         | then-is_first w ↦
-            w.kept-is ∙ w.with_row-kept.ensures ∙ ap (λ (k : Tableau). with_row k (get_or t.relations l.i 0) w.row_at.result) l.invariant.2
+            w.kept-is ∙ w.with_row-kept.ensures ∙ ap (λ (n : ℕ). with_row l.kept n w.row_at.result) at
+            ∙ ap (λ (k : Tableau). with_row k (get_or t.relations l.i 0) w.row_at.result) l.invariant.2
             ∙ ap (with_row (distinct_to t l.i) (get_or t.relations l.i 0)) w.row_at.ensures
             ∙ sym (distinct-keeps t l.i (sym first ∙ w.if-is_first.true))
         | else-is_first w ↦ w.kept-is ∙ l.invariant.2 ∙ sym (distinct-drops t l.i (sym first ∙ w.if-is_first.false))

@@ -7,4 +7,4 @@ use Rattle.join_step.proofs.without_repeats.Given as goal
 
 abbrev pub invariant-loop-i : goal.invariant-loop-i
 invariant-loop-i l =
-    (l.i ≤ l.size) × (l.codes ≡ codes_of l.t.cells) × (l.kept ≡ distinct_to l.t l.i)
+    (l.i ≤ l.fn.t.size) × (l.codes ≡ codes_of l.fn.t.cells) × (l.kept ≡ distinct_to l.fn.t l.i)

@@ -1,6 +1,9 @@
 -- `fill` makes the table of set after set, and last table 0 by all their columns. Invariant: the first k sets have their tables. Assumes nothing.
-use mathlib.Core.Path.{refl, ◌∙◌}
+use mathlib.Core.Path.{refl, ◌∙◌, ◌≡◌}
 use native.Mathlib.Omega.{arith}
+use lib.ListN.{length, take, get_or}
+use lib.Seq.{get_or-take, length-take-le}
+use borrow.Author.Rules.{rules}
 use Rattle.join_tables.proofs.Filling.{levelled-none, levelled-next, levelled-all}
 use Rattle.join_tables.proofs.fill.Goals as goal
 
@@ -21,9 +24,10 @@ loop-k-preserved c = let u = c in
     let l = i.loop-k in
     let s = i in
     let a = s.args in
+    let at : get_or (take a.j.count a.j.sets) l.k 0 ≡ get_or a.j.sets l.k 0 = get_or-take a.j.count a.j.sets l.k 0 (omega arith) in
     let e = u.enter_set.ensures in (
-      levelled-next a.schema.now a.words.now a.j a.x l.heads l.nodes l.filled l.k l.invariant.0 i.loop-k-test.true s.requires.searchable.0.few
-          u.enter_set.new.heads u.enter_set.new.nodes e.threaded e.roomy_2 e.table e.by_index,
+      rw at (levelled-next a.schema.now a.words.now a.j a.x l.heads l.nodes l.filled l.k l.invariant.0 (omega arith) s.requires.searchable.0.few
+          u.enter_set.new.heads u.enter_set.new.nodes e.threaded e.roomy_2 (rw at at e.table) e.by_index),
       u.enter_set.auto.heads ∙ l.invariant.1,
       u.enter_set.auto.nodes ∙ l.invariant.2,
     )
@@ -34,5 +38,6 @@ returns c = let u = c in
     let l = e.loop-k in
     let s = e in
     let a = s.args in
-    levelled-all a.schema.now a.words.now a.j a.x l.heads l.nodes l.filled l.k l.invariant.0 e.loop-k-test.false s.requires.searchable.0.few
+    let sets : length a.j.sets ≡ 4 = search (rules, c.well_formed) in
+    levelled-all a.schema.now a.words.now a.j a.x l.heads l.nodes l.filled l.k l.invariant.0 (omega (arith, length-take-le a.j.count a.j.sets (omega (arith, s.requires.searchable.0.few, sets)))) s.requires.searchable.0.few
     s.requires.searchable.1 s.requires.searchable.2 u.enter.new.heads u.enter.new.nodes u.enter.ensures.beside u.enter.ensures.table_2

@@ -6,4 +6,4 @@ use Rattle.join_tables.proofs.fill.Given as goal
 
 abbrev pub invariant-loop-k : goal.invariant-loop-k
 invariant-loop-k l =
-    Levelled l.schema l.words l.j l.x l.heads l.nodes l.filled l.k × (length l.heads ≡ length l.initial.heads) × (length l.nodes ≡ length l.initial.nodes)
+    Levelled l.schema l.words l.fn.j l.x l.heads l.nodes l.filled l.k × (length l.heads ≡ length l.initial.heads) × (length l.nodes ≡ length l.initial.nodes)
