@@ -54,7 +54,7 @@ fn cell_good(c: &Cell) -> bool
 }
 
 // Whether an entry is that of a cell not in use.
-// Kept as it is, with its likes below: a name for a derived `==`, whose clause is the definition that the rule names.
+// Kept as it is: it and its likes below name a derived `==`, and their clause is the definition that the rule names.
 fn cell_blank(c: &Cell) -> bool
     ensures { result ≡ blank_cell c.now }
 {
@@ -101,6 +101,7 @@ fn dependency_blank(d: &Dependency) -> bool
 }
 
 // Whether sets of columns together are all columns of a relation of the given width.
+// Kept as it is: the sets are always 4, and their union is no longer in this form than as a fold with a closure.
 fn sets_cover(sets: [u8; 4], width: u8) -> bool
     requires { (width ≤ 8) × (every (λ set. ltb set (2 ^ width)) sets ≡ true) }
     ensures { result ≡ subset (numbers_where (λ c. true) 0 width) (flatten (map columns_of sets)) }
@@ -145,6 +146,7 @@ fn cell_names(c: &Cell, v: u8) -> bool
 }
 
 // Whether a variable stands in some cells.
+// Kept as it is: `stands` of `mapping` and of `replacement` test the same for clauses in words of their own; one function would carry all three clauses.
 fn cells_have(cells: &[Cell], v: u8) -> bool
     ensures { result ≡ member v (variables_of (entries_of cells.now)) }
 {
