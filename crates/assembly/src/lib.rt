@@ -24,13 +24,10 @@ use record::Record;
 pub fn up_to_filled(places: [Place; 8]) -> usize
     ensures { (result ≡ up_to_filled places) × (result ≤ 8) }
 {
-    let mut n = 0;
-    for (k, place) in places.iter().enumerate() {
-        if place.filled {
-            n = k + 1;
-        }
+    match places.iter().rposition(|place| place.filled) {
+        Some(last) => last + 1,
+        None => 0,
     }
-    n
 }
 
 // How long the parts of some places are.
