@@ -240,7 +240,7 @@ impl Schema {
     }
 
     // Whether each row is good, row r having the 8 cells from 8 * r on.
-    // Kept as it is: a chain would zip the relations with chunks_exact, and the library names no list of items for chunks that a proof could go by.
+    // Kept as it is: `named.iter().zip(cells.chunks_exact(8)).all(..)` was tried, and its proof did not close: no `YieldsList` lemma of std is for chunks.
     // That the cells are as many as 8 a row is a fact of two slices, which come from one array each.
     fn rows_good(self, named: &[u8], cells: &[Cell]) -> bool
         requires { 8 * length named.now ≤ length cells.now }
@@ -269,7 +269,7 @@ impl Schema {
     }
 
     // Whether a variable stands in one of the rows of the given relations, row r having the 8 cells from 8 * r on.
-    // Kept as it is: as with `rows_good`, no list of items is named for a chain over chunks.
+    // Kept as it is: a closure over chunks would take the first `width` cells of one, and so need a clause that a chunk has 8.
     pub fn rows_have(self, named: &[u8], cells: &[Cell], v: u8) -> bool
         requires { 8 * length named.now ≤ length cells.now }
         ensures { result ≡ member v (variables_of (row_entries (rows_of (widths_in self) named.now cells.now))) }
