@@ -1,4 +1,5 @@
 // The pieces of a file, written into a lent buffer. Each function writes one over the buffer at a position: what stands before and after it stays.
+// Kept as it is: of `buffer` and `at` see `printing`.
 #![tactic(auto)]
 
 ghost use Rattle.std.specs.Prelude.{◌≡◌, true, ◌+◌, ◌*◌, ◌≤◌, length, take};
@@ -23,13 +24,10 @@ use record::Record;
 pub fn up_to_filled(places: [Place; 8]) -> usize
     ensures { (result ≡ up_to_filled places) × (result ≤ 8) }
 {
-    let mut n = 0;
-    for (k, place) in places.iter().enumerate() {
-        if place.filled {
-            n = k + 1;
-        }
+    match places.iter().rposition(|place| place.filled) {
+        Some(last) => last + 1,
+        None => 0,
     }
-    n
 }
 
 // How long the parts of some places are.
@@ -54,6 +52,7 @@ fn join_length(j: JoinDependency) -> usize
 }
 
 // How long the join dependencies are: nothing where none is held, else their count and each.
+// Kept as it is: it is given what `put_joins` is given, which writes the count, and both name the same `joins_bytes` of it.
 pub fn joins_length(joined: u8, list: [JoinDependency; 4]) -> usize
     requires { (joined ≤ 4) × (every few_sets list ≡ true) }
     ensures { (result ≡ length (joins_bytes joined list)) × (result ≤ 25) }
@@ -69,8 +68,6 @@ pub fn joins_length(joined: u8, list: [JoinDependency; 4]) -> usize
 }
 
 // ---- part 0 and part 1
-
-// Kept as it is, for both kinds of dependencies: how many are held is a byte of the record and of the file; of a slice it would have to be made one again.
 
 // The relations at a position: their count, then a width byte each.
 fn put_relations(buffer: &mut [u8], at: usize, schema: Schema)
@@ -91,6 +88,7 @@ fn put_dependency(buffer: &mut [u8], at: usize, d: Dependency)
 }
 
 // The functional dependencies at a position: their count, then 3 bytes each.
+// Kept as it is: the count is a byte of the record and of the file; of a slice, here and in `put_joins`, it would have to be made a byte again.
 fn put_dependencies(buffer: &mut [u8], at: usize, held: u8, list: [Dependency; 32])
     requires held_bound { held ≤ 32 }
     requires held_in_bounds { at + 1 + 3 * held ≤ length buffer.old }

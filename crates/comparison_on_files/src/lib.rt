@@ -1,4 +1,5 @@
 // Comparing and checking a mapping on files: what each call leaves in what it is lent.
+// Kept as it is: the C interface lends each number and buffer apart.
 #![tactic(auto)]
 
 ghost use Rattle.std.specs.Prelude.{◌≡◌, true, cond, ◌&&◌, [], eqb, ltb, length, replicate};

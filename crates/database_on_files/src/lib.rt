@@ -1,5 +1,6 @@
 // Testing a database, evaluating a place on it and counting its answers, on files. A refusal leaves every buffer and number that a call is lent as it was;
 // working memory too, unless it is for want of room.
+// Kept as it is: the C interface lends each number and buffer apart.
 #![tactic(auto)]
 
 ghost use Rattle.std.specs.Prelude.{◌≡◌, length};

@@ -1,4 +1,5 @@
 // A query part, written into a lent buffer. Each function writes one piece over the buffer at a position: what stands before and after it stays.
+// Kept as it is: of `buffer` and `at` see `printing`.
 #![tactic(auto)]
 
 ghost use Rattle.std.specs.Prelude.{◌≡◌, true, ◌+◌, ◌*◌, ◌≤◌, ◌<◌, length, take, drop, get_or};

@@ -1,4 +1,4 @@
-// What a call on a file leaves in the numbers that it is lent, the parts of its answer, or a refusal and the numbers as they were; and the number that it returns.
+// What a call on a file leaves in the numbers that it is lent: the parts of its answer, or, on a refusal, what they were; and the number that it returns.
 // Kept as it is: these fill numbers that are lent, since the calls of the C interface lend them.
 #![tactic(auto)]
 
@@ -49,6 +49,7 @@ pub fn leave_columns(
 }
 
 // Leaves what a test says.
+// Kept as it is: the refusal has an arm of its own, which a must-fail edit of the project replaces; `match tested?` would have none.
 pub fn leave_test(
     tested: Result<Option<Violation>, Refusal>,
     verdict: &mut u8,

@@ -54,7 +54,7 @@ fn cell_good(c: &Cell) -> bool
 }
 
 // Whether an entry is that of a cell not in use.
-// Kept as it is, with its likes below: a name for a derived `==`, whose clause is the definition that the rule names.
+// Kept as it is: it and its likes below name a derived `==`, and their clause is the definition that the rule names.
 fn cell_blank(c: &Cell) -> bool
     ensures { result ≡ blank_cell c.now }
 {
@@ -101,6 +101,7 @@ fn dependency_blank(d: &Dependency) -> bool
 }
 
 // Whether sets of columns together are all columns of a relation of the given width.
+// Kept as it is: the sets are always 4, and their union is no longer in this form than as a fold with a closure.
 fn sets_cover(sets: [u8; 4], width: u8) -> bool
     requires { (width ≤ 8) × (every (λ set. ltb set (2 ^ width)) sets ≡ true) }
     ensures { result ≡ subset (numbers_where (λ c. true) 0 width) (flatten (map columns_of sets)) }
@@ -145,6 +146,7 @@ fn cell_names(c: &Cell, v: u8) -> bool
 }
 
 // Whether a variable stands in some cells.
+// Kept as it is: `stands` of `mapping` and of `replacement` test the same for clauses in words of their own; one function would carry all three clauses.
 fn cells_have(cells: &[Cell], v: u8) -> bool
     ensures { result ≡ member v (variables_of (entries_of cells.now)) }
 {
@@ -238,7 +240,7 @@ impl Schema {
     }
 
     // Whether each row is good, row r having the 8 cells from 8 * r on.
-    // Kept as it is: a chain would zip the relations with chunks_exact, and the library names no list of items for chunks that a proof could go by.
+    // Kept as it is: `named.iter().zip(cells.chunks_exact(8)).all(..)` was tried, and its proof did not close: no `YieldsList` lemma of std is for chunks.
     // That the cells are as many as 8 a row is a fact of two slices, which come from one array each.
     fn rows_good(self, named: &[u8], cells: &[Cell]) -> bool
         requires { 8 * length named.now ≤ length cells.now }
@@ -267,7 +269,7 @@ impl Schema {
     }
 
     // Whether a variable stands in one of the rows of the given relations, row r having the 8 cells from 8 * r on.
-    // Kept as it is: as with `rows_good`, no list of items is named for a chain over chunks.
+    // Kept as it is: a closure over chunks would take the first `width` cells of one, and so need a clause that a chunk has 8.
     pub fn rows_have(self, named: &[u8], cells: &[Cell], v: u8) -> bool
         requires { 8 * length named.now ≤ length cells.now }
         ensures { result ≡ member v (variables_of (row_entries (rows_of (widths_in self) named.now cells.now))) }

@@ -1,12 +1,13 @@
 -- A part that holds a count and then so many values: what the reader's answers say of the format's reading of the whole part.
-use mathlib.Core.Path.{◌≡◌, refl, sym, ap, ◌∙◌}
+use mathlib.Core.Path.{◌≡◌, refl, sym, ap, subst, ◌∙◌}
 use mathlib.Core.Bool.{Bool, true}
 use borrow.Author.Tests.{leb-true}
 use Rattle.format.proofs.Formats.{not-got, got_if-true}
-use mathlib.Core.List.{List, [], ◌∷◌}
+use mathlib.Core.List.{List, [], ◌∷◌, ◌++◌}
 use Prim.Native.Nat.{ℕ, ◌+◌, ◌≤◌, ◌<◌}
 use native.Mathlib.Omega.{arith}
-use lib.ListN.{length, set, replicate}
+use lib.ListN.{length, set, take, drop, replicate, length-append}
+use Rattle.std.proofs.lemmas.List.{take-append-drop, set-append_left}
 use lib.Dec.{leb, leb-zero}
 use Rattle.lists.specs.Tests.{between}
 use Rattle.format.specs.Format.{Reading, none, got, then_read, map_reading, Format, get_byte, byte, sequence, padded}
@@ -90,6 +91,12 @@ module _ {A : Type 0} (test : ℕ → Bool) (total : ℕ) (blank : A) (is_blank 
   pub no-count : (m : ℕ) → get_byte test part ≡ none → complete m (counted.get part) ≡ refused m
   no-count m e = complete-none m (counted.get part) (no-count-front e)
 
+  -- the slots of the values are lent apart from the others
+  pub counting-lends : (n : ℕ) (front : List ℕ) → get_byte test part ≡ got n front
+      → Counting n (take n (replicate total blank) ++ drop n (replicate total blank)) 0 front
+  counting-lends n front e =
+      subst (λ (xs : List A). Counting n xs 0 front) (sym (take-append-drop n (replicate total blank))) (counting-starts n front e)
+
   module _ {n : ℕ} {xs : List A} {i : ℕ} {left : List ℕ} (c : Counting n xs i left) where
     pub counting-turns : (x : A) (next : List ℕ) → i < n → i < length xs → f.get left ≡ got x next → Counting n (set xs i x) (i + 1) next
     counting-turns x next h l e = record { front = c.front; head = c.head; rest = filling-turns c.rest x next h l e }
@@ -113,3 +120,9 @@ module _ {A : Type 0} (test : ℕ → Bool) (total : ℕ) (blank : A) (is_blank 
 
     pub counting-long : (m : ℕ) → n ≤ i → (length left ≡ 0 → ⊥) → complete m (counted.get part) ≡ refused m
     counting-long m h l = ap (complete m) (counting-ends-front h) ∙ complete-long m (n, xs) left l
+
+  pub counting-turns-lent : {n : ℕ} (lent others : List A) {i : ℕ} {left : List ℕ} → Counting n (lent ++ others) i left → (x : A) (next : List ℕ)
+      → i < n → i < length lent → f.get left ≡ got x next → Counting n (set lent i x ++ others) (i + 1) next
+  counting-turns-lent {n = n} lent others {i = i} c x next h l e =
+      let within : i < length (lent ++ others) = simp length-append (omega arith) in
+      subst (λ (xs : List A). Counting n xs (i + 1) next) (set-append_left lent others i x l) (counting-turns c x next h within e)

@@ -178,7 +178,6 @@ fn read_dependency(s: &[u8], schema: Schema) -> Option<(Dependency, &[u8])>
 }
 
 // The front of part 1: the count of functional dependencies, then each of them.
-// Kept as it is: i names the slot; to go over the first n slots instead takes a function of its own that they are lent to, as `read_entries` has.
 pub fn read_dependencies(part: &[u8], schema: Schema) -> Option<((u8, [Dependency; 32]), &[u8])>
     ensures { reading_of result ≡ (dependencies (widths_in schema)).get part.now }
 {
@@ -186,9 +185,9 @@ pub fn read_dependencies(part: &[u8], schema: Schema) -> Option<((u8, [Dependenc
     let mut dependencies = [NO_DEPENDENCY; 32];
     let mut rest = front;
     let n = held as usize;
-    for i in 0..n {
+    for slot in dependencies[..n].iter_mut() {
         let (d, after) = read_dependency(rest, schema)?;
-        dependencies[i] = d;
+        *slot = d;
         rest = after;
     }
     Some(((held, dependencies), rest))
@@ -232,7 +231,6 @@ fn read_join(s: &[u8], schema: Schema) -> Option<(JoinDependency, &[u8])>
 }
 
 // What is left of part 1 after the functional dependencies: nothing, or the count of join dependencies and each of them.
-// Kept as it is: i names the slot; to go over the first n slots instead takes a function of its own that they are lent to, as `read_entries` has.
 pub fn read_joins(part: &[u8], schema: Schema) -> Option<(u8, [JoinDependency; 4])>
     ensures { result ≡ value_given (read_joins (widths_in schema) part.now) }
 {
@@ -243,9 +241,9 @@ pub fn read_joins(part: &[u8], schema: Schema) -> Option<(u8, [JoinDependency; 4
     let (joined, front) = read_byte(part, 1, 4)?;
     let mut rest = front;
     let n = joined as usize;
-    for i in 0..n {
+    for slot in joins[..n].iter_mut() {
         let (j, after) = read_join(rest, schema)?;
-        joins[i] = j;
+        *slot = j;
         rest = after;
     }
     if !rest.is_empty() {

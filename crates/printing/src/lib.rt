@@ -27,6 +27,7 @@ pub fn put_byte(buffer: &mut [u8], at: usize, byte: u8) -> usize
 }
 
 // Writes a number in decimal.
+// Kept as it is: the library prints to a writer that may lack room, or to a text that may be cut; each is a case more, to be ruled out here.
 pub fn put_number(buffer: &mut [u8], at: usize, n: usize) -> usize
     requires { Fits buffer.old at (decimal n) }
     ensures { WrittenAt buffer.old at (decimal n) buffer.new result }

@@ -43,6 +43,7 @@ impl From<u32> for Entry {
 }
 
 // One entry in an array.
+// Kept as it is: a cell of one field that holds an entry is a form of the project's scope.
 #[derive(Clone, Copy, PartialEq, Eq)]
 pub struct Cell {
     pub entry: Entry,
@@ -55,6 +56,7 @@ pub const NO_CELL: Cell = Cell {
 
 // A query with room for ROWS rows of 8 cells each, CELLS in all: a head of `arity` entries and `size` rows. Row r is of relation relations[r], and its entries
 // are cells[8 * r ..], one a column. A query without rows is the never query. What is not in use holds 0, an entry constant 0.
+// Kept as it is: flat arrays of cells are a form of the project's scope, and memory is fixed, so `arity` and `size` say how much of each is in use.
 #[derive(Clone, Copy)]
 pub struct ConjunctiveQuery<const ROWS: usize, const CELLS: usize> {
     pub arity: u8,
@@ -110,6 +112,7 @@ pub const NO_DEPENDENCY: Dependency = Dependency {
 };
 
 // A join dependency: the relation is the join of its projections on the first `count` of the sets of columns (bit c for column c).
+// Kept as it is: memory is fixed, so there is room for 4 sets, and `count` says how many are in use; that the rest are 0 is judged too.
 #[derive(Clone, Copy, PartialEq, Eq)]
 pub struct JoinDependency {
     pub relation: u8,

@@ -17,7 +17,7 @@ use refusals::Refusal;
 // ---- the directory
 
 // Whether the pairs obey the offset rule: the first part starts where the pairs end, each next where the previous ends, and the last ends the file.
-// Kept as it is: k gives the places of a pair's two numbers, and the library names no list of items for chunks of four bytes that a proof could go by.
+// Kept as it is: `due` goes from pair to pair, so a loop it is, and of a chunk of four bytes the two numbers would be read at positions too.
 fn chain(file: &[u8], n: usize) -> bool
     requires { (n ≤ 10) × (2 + 4 * n ≤ length file.now) }
     ensures { result ≡ chained n (2 + 4 * n) (length file.now) (drop 2 file.now) }

@@ -9,6 +9,7 @@ use refusals::Refusal;
 
 // The record: there are `relations` relations, relation r has widths[r] columns, the first `held` functional dependencies are held, and the first `joined`
 // join dependencies.
+// Kept as it is: memory is fixed, so each array has its full room, and refusal 14 judges also what is not in use: the counts stand beside arrays.
 #[derive(Clone, Copy)]
 pub struct Record {
     pub relations: u8,
@@ -21,6 +22,7 @@ pub struct Record {
 }
 
 // A call's answer, done or refused, with the record after it. A refused call hands back the record that it was given.
+// Kept as it is: a refused call hands the record back, so the record stands beside the answer.
 #[derive(Clone, Copy)]
 pub struct Outcome {
     pub answer: Result<(), Refusal>,

@@ -57,6 +57,7 @@ pub fn open(widths: &[u8]) -> Outcome
 }
 
 // Drop a filled place.
+// Kept as it is: a place lookup taken apart by `let .. else` is a form of the project's scope; a refused call hands the record back, as `?` cannot.
 pub fn drop_query(given: Record, place: usize) -> Outcome
     ensures { outcome_reply result ≡ drop_query given place }
 {

@@ -200,6 +200,7 @@ fn joins(rt: &impl Print, r: Record) -> io::Result<()> {
 }
 
 // The record with the first two join dependencies added twice each, so that 4 are held.
+// Kept as it is: `full` calls another method with cases of another type, as `adds` does.
 fn joined(rt: &impl Print, r: Record) -> io::Result<Record> {
     let dependencies = join_dependencies();
     let mut grown = r;

@@ -1,5 +1,6 @@
 // The calls on the record alone, on files: a record is the bytes of its file, in and out.
 // A refusal leaves every buffer and number that a call is lent as it was.
+// Kept as it is: the C interface lends each number and buffer apart.
 #![tactic(auto)]
 
 ghost use Rattle.std.specs.Prelude.{◌≡◌, true, length};

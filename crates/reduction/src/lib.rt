@@ -18,6 +18,7 @@ use tableaux::{from_query, to_query};
 
 // What a reduction gives: its answer, the record after it, the number of replacements, and the mapping from the source query to the result.
 // Where there is no mapping, its images hold constant 0.
+// Kept as it is: a refused call hands the record back, so the record stands beside the answer; what is blank on a refusal is told by its clauses.
 #[derive(Clone, Copy)]
 pub struct Reduced {
     pub answer: Result<(), Refusal>,
@@ -27,6 +28,7 @@ pub struct Reduced {
 }
 
 // A shortened query, the number of replacements, and the mapping from the query as it was. Where there is none, its images hold constant 0.
+// Kept as it is: `Reduced` and the call on files give images without a mapping too, as constant 0, so they are no Option.
 #[derive(Clone, Copy)]
 struct Shortened {
     query: Query,

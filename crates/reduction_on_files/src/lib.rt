@@ -1,4 +1,5 @@
 // Reducing on files: what the call leaves in what it is lent.
+// Kept as it is: the C interface lends each number and buffer apart.
 #![tactic(auto)]
 
 ghost use Rattle.std.specs.Prelude.{length};

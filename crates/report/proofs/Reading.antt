@@ -1,22 +1,19 @@
 -- What reading a file answers: an accepted file's record is good, and what is written of it is its listing. Assumes nothing.
-use mathlib.Core.Path.{◌≡◌, sym, ap, subst}
+use mathlib.Core.Path.{◌≡◌, sym, ap, subst, ◌∙◌}
 use mathlib.Core.Bool.{true}
 use mathlib.Core.List.{List}
 use Prim.Native.Nat.{ℕ, ◌≤◌, ◌<◌}
 use native.Mathlib.Omega.{arith}
 use lib.ListN.{length, get_or, length-append}
 use Rattle.record.specs.declared.Record.{Record}
-use Rattle.std.specs.Prelude.{Ok, Err}
-use Rattle.record.specs.declared.Outcome.{Outcome}
+use Rattle.std.specs.Prelude.{Result, Ok, Err}
 use Rattle.record.specs.Rule.{good_record}
-use Rattle.record.specs.Calls.{outcome_reply}
 use Rattle.refusals.specs.declared.Refusal.{Refusal}
-use Rattle.refusals.specs.Refusal.{number_of}
+use Rattle.refusals.specs.Refusal.{number_of, reply_of}
 use Rattle.refusals.specs.Refusals.{Reply}
-use Rattle.format.specs.File.{read_file, read_outcome}
+use Rattle.format.specs.File.{read_file}
 use Rattle.format.proofs.RoundTrip.{file-written-back}
 use Rattle.format.proofs.Bytes.{bytes-known}
-use Rattle.format.proofs.Results.{outcome-done, outcome-refused}
 use Rattle.text.specs.Text.{refused_text}
 use Rattle.lists.specs.Over.{over}
 use Rattle.printing.specs.internal.Writing.{WrittenAt}
@@ -27,30 +24,29 @@ use Rattle.report.specs.internal.Places.{ListingWritten}
 over-fits : (buffer text : List ℕ) → length text ≤ length (over buffer 0 text)
 over-fits buffer text = simp length-append (omega arith)
 
-module _ (file : List ℕ) (o : Outcome) (e : outcome_reply o ≡ read_outcome (read_file file)) where
+module _ (file : List ℕ) (read : Result Record Refusal) (e : reply_of read ≡ read_file file) where
   -- The record of an accepted file is good
-  pub read-good : ((i : ℕ) → get_or file i 0 < 256) → o.answer ≡ Ok tt → good_record o.«record» ≡ true
-  read-good bytes a = (file-written-back file o.«record» (bytes-known file bytes) (outcome-done (read_file file) o e a)).0
+  pub read-good : ((i : ℕ) → get_or file i 0 < 256) → (r : Record) → read ≡ Ok r → good_record r ≡ true
+  read-good bytes r a = (file-written-back file r (bytes-known file bytes) (sym e ∙ ap reply_of a)).0
 
   -- The lines of its filled places are a listing
-  pub read-listing : o.answer ≡ Ok tt → (before after : List ℕ) (end : ℕ) → ListingWritten o.«record» before after end → IsReport file before after end
-  read-listing a before after end w =
+  pub read-listing : (r : Record) → read ≡ Ok r → (before after : List ℕ) (end : ℕ) → ListingWritten r before after end → IsReport file before after end
+  read-listing r a before after end w =
       record {
         text = w.text;
-        listing = subst (λ (x : Reply Record). ListingOf x w.text) (sym (outcome-done (read_file file) o e a)) w.lines;
+        listing = subst (λ (x : Reply Record). ListingOf x w.text) (sym (ap reply_of a) ∙ e) w.lines;
         written = w.written.buffer;
         length-returned = omega (arith, w.written.position);
         fits = omega (arith, w.written.position, over-fits before w.text, ap (λ (l : List ℕ). length l) w.written.buffer);
       }
 
   -- The line of a refused file is one
-  pub read-refused : (why : Refusal) (n : ℕ) → n ≡ number_of why → o.answer ≡ Err why → (before after : List ℕ) (end : ℕ)
+  pub read-refused : (why : Refusal) (n : ℕ) → n ≡ number_of why → read ≡ Err why → (before after : List ℕ) (end : ℕ)
       → WrittenAt before 0 (refused_text n) after end → IsReport file before after end
   read-refused why n same a before after end w =
       record {
         text = refused_text n;
-        listing =
-            subst (λ (x : Reply Record). ListingOf x (refused_text n)) (sym (outcome-refused (read_file file) o why e a)) (ap refused_text same);
+        listing = subst (λ (x : Reply Record). ListingOf x (refused_text n)) (sym (ap reply_of a) ∙ e) (ap refused_text same);
         written = w.buffer;
         length-returned = omega (arith, w.position);
         fits = omega (arith, w.position, over-fits before (refused_text n), ap (λ (l : List ℕ). length l) w.buffer);

@@ -89,10 +89,8 @@ pub fn report(file: &[u8], buffer: &mut [u8]) -> usize
     requires { 8 * place_room ≤ length buffer.old }
     ensures { IsReport file.now buffer.old buffer.new result }
 {
-    let outcome = file::read(file);
-    let answer = outcome.answer;
-    match answer {
-        Ok(()) => write_places(buffer, outcome.record),
+    match file::read_record(file) {
+        Ok(given) => write_places(buffer, given),
         Err(refusal) => text::write_refused(buffer, 0, u8::from(refusal)),
     }
 }

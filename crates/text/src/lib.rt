@@ -1,5 +1,5 @@
 // The lines of the listing, written into a lent buffer. Each function takes the position to write from and returns the one after.
-// Kept as it is: see `printing`.
+// Kept as it is: of `buffer` and `at` see `printing`.
 #![tactic(auto)]
 
 ghost use Rattle.std.specs.Prelude.{◌≡◌, ◌+◌, ◌*◌, ◌≤◌, true, [], ◌∷◌, ◌++◌, length, take, drop};

@@ -1,12 +1,6 @@
-use borrow.Author.Rules.{rules}
 use mathlib.Core.Path.{◌≡◌, sym, ap, refl, ◌∙◌}
-use mathlib.Core.Bool.{true}
-use Rattle.lists.specs.Tests.{every}
 use mathlib.Core.List.{List, [], ◌∷◌, ◌++◌, map, flat_map, flatten}
-use Prim.Native.Nat.{ℕ, ◌≤◌, ◌<◌}
-use native.Mathlib.Omega.{arith}
-use lib.ListN.{length, take, get_or}
-use lib.Seq.{length-take-le, get_or-take}
+use Prim.Native.Nat.{ℕ}
 use Rattle.query.specs.declared.Place.{Place}
 use Rattle.query.specs.Rule.{good_place}
 use Rattle.lists.specs.Over.{over}

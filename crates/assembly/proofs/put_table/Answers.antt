@@ -1,10 +1,8 @@
-use borrow.Author.Rules.{rules}
 use mathlib.Core.Path.{◌≡◌, sym, ap, refl, ◌∙◌}
 use mathlib.Core.List.{List, ◌∷◌, ◌++◌, map}
 use Prim.Native.Nat.{ℕ, ◌+◌, ◌*◌, ◌-◌, ◌≤◌, ◌<◌}
 use native.Mathlib.Omega.{arith}
-use lib.ListN.{length, take, drop, get_or, length-append, length-drop, length-map, length-take}
-use lib.Seq.{length-take-le, get_or-take}
+use lib.ListN.{length, drop, get_or, length-append, length-drop, length-map}
 use Rattle.query.specs.declared.Place.{Place}
 use Rattle.query.specs.Rule.{good_place}
 use Rattle.lists.specs.Over.{over}

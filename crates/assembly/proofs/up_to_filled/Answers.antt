@@ -1,58 +1,46 @@
--- one place more at the end
-use borrow.Author.Rules.{rules}
-use mathlib.Core.Path.{◌≡◌, sym, ap, refl, ◌∙◌}
+-- the last filled place is found from the end
+use Rattle.std.proofs.Common.{rules}
+use mathlib.Core.Path.{◌≡◌, refl, sym, ap, ◌∙◌}
 use mathlib.Core.Bool.{Bool, true, false, cond}
-use mathlib.Core.List.{List, [], ◌∷◌, ◌++◌}
-use Prim.Native.Nat.{ℕ, suc, ◌+◌, ◌<◌}
+use mathlib.Core.List.{List, [], ◌∷◌}
+use Prim.Native.Nat.{ℕ, zero, suc, ◌+◌, ◌<◌, ◌≤◌}
 use native.Mathlib.Numerals.{add-one}
 use native.Mathlib.Omega.{arith}
-use lib.ListN.{length, take, get_or}
-use lib.Seq.{take-suc, take_all, length-take-le}
+use lib.ListN.{length, get_or}
 use Rattle.query.specs.declared.Place.{Place}
 use Rattle.query.proofs.Shape.{past_place}
 use Rattle.format.specs.File.{one_more_if_any, up_to_filled}
 use Rattle.assembly.proofs.up_to_filled.Goals as goal
-use Rattle.assembly.proofs.up_to_filled.Goals.{then-place, else-place}
 
-last-place : (ps : List Place) (p : Place) (t : Bool) → p.filled ≡ t → up_to_filled (ps ++ (p ∷ [])) ≡ cond t (suc (length ps)) (up_to_filled ps)
+none-filled : (ps : List Place) → ((k : ℕ) → k < length ps → (get_or ps k past_place).filled ≡ false) → up_to_filled ps ≡ 0
 unfolding up_to_filled
-last-place [] p true e = rw e
-last-place [] p false e = rw e
-last-place (q ∷ ps) p t e = go t q.filled (last-place ps p t e)
+none-filled [] vacant = refl
+none-filled (p ∷ ps) vacant =
+    let first : p.filled ≡ false = vacant 0 (omega arith) in
+    let rest : up_to_filled ps ≡ 0 = none-filled ps (λ k h. vacant (suc k) (omega (arith, h))) in
+    rw (first, rest)
+
+last-filled : (ps : List Place) (i : ℕ) → i < length ps → (get_or ps i past_place).filled ≡ true
+    → ((k : ℕ) → i + 1 ≤ k → k < length ps → (get_or ps k past_place).filled ≡ false) → up_to_filled ps ≡ i + 1
+unfolding up_to_filled
+last-filled [] i h t vacant = absurd (omega arith)
+last-filled (p ∷ ps) zero h t vacant =
+    let rest : up_to_filled ps ≡ 0 = none-filled ps (λ k l. vacant (suc k) (omega arith) (omega (arith, l))) in
+    rw (t, rest)
+last-filled (p ∷ ps) (suc i) h t vacant =
+    let rest : up_to_filled ps ≡ i + 1 = last-filled ps i (omega (arith, h)) t (λ k m l. vacant (suc k) (omega (arith, m)) (omega (arith, l))) in
+    ap (λ (n : ℕ). cond p.filled (suc n) (one_more_if_any n)) (rest ∙ add-one i) ∙ either p.filled i ∙ sym (add-one (suc i))
   where
-    go : (t u : Bool) → up_to_filled (ps ++ (p ∷ [])) ≡ cond t (suc (length ps)) (up_to_filled ps)
-        → cond u (suc (up_to_filled (ps ++ (p ∷ [])))) (one_more_if_any (up_to_filled (ps ++ (p ∷ []))))
-        ≡ cond t (suc (suc (length ps))) (cond u (suc (up_to_filled ps)) (one_more_if_any (up_to_filled ps)))
-    go true true ih = ap suc ih
-    go true false ih = ap one_more_if_any ih
-    go false true ih = ap suc ih
-    go false false ih = ap one_more_if_any ih
+    either : (b : Bool) (n : ℕ) → cond b (suc (suc n)) (one_more_if_any (suc n)) ≡ suc (suc n)
+    either true n = refl
+    either false n = refl
 
-turn : (places : List Place) (k : ℕ) (t : Bool) → k < length places → (get_or places k past_place).filled ≡ t
-    → up_to_filled (take (k + 1) places) ≡ cond t (k + 1) (up_to_filled (take k places))
-turn places k t h e =
-    let l : length (take k places) ≡ k = length-take-le k places (omega arith) in
-    rw (add-one k, take-suc places k past_place h, last-place (take k places) (get_or places k past_place) t e, l)
-
-pub loop-k-init : goal.loop-k-init
-unfolding up_to_filled
-loop-k-init c =
-    (omega arith, omega arith, refl)
-
-pub loop-k-preserved : goal.loop-k-preserved
-loop-k-preserved c =
+pub returns-in-Some : goal.returns-in-Some
+returns-in-Some c =
     let places = c.args.places in
-    let k = c.loop-k.k in
-    let l : length places ≡ 8 = search rules in
-    let inv = c.loop-k.invariant in
-    elim c.if-place.branch [
-      | then-place w ↦ (search rules, omega (arith, w.n-is), w.n-is ∙ sym (turn places k true (omega arith) w.if-place.true))
-      | else-place w ↦ (search rules, omega (arith, w.n-is, inv.1), w.n-is ∙ inv.2 ∙ sym (turn places k false (omega arith) w.if-place.false))
-    ]
+    let long : length places ≡ 8 = search rules in
+    let inside : c.in-Some.last < length places = search rules in
+    (sym (last-filled places c.in-Some.last inside (search rules) (search rules)), omega arith)
 
-pub returns : goal.returns
-returns c =
-    let places = c.args.places in
-    let l : length places ≡ 8 = search rules in
-    let e : take c.loop-k.k places ≡ places = take_all c.loop-k.k places (omega arith) in
-    (c.loop-k.invariant.2 ∙ ap up_to_filled e, omega (arith, c.loop-k.invariant.1, c.loop-k.invariant.0))
+pub returns-in-None : goal.returns-in-None
+returns-in-None c = (sym (none-filled c.args.places (search rules)), omega arith)

@@ -1,8 +1,8 @@
 use mathlib.Core.Path.{◌≡◌}
-use mathlib.Core.List.{List}
+use mathlib.Core.List.{List, ◌++◌}
 use Prim.Native.Nat.{ℕ, ◌≤◌}
 use lib.Dec.{leb}
-use lib.ListN.{length}
+use lib.ListN.{length, drop, replicate}
 use Rattle.query.specs.declared.Dependency.{Dependency}
 use Rattle.query.specs.Rule.{blank_dependency, no_dependency}
 use Rattle.format.specs.Parts.{dependency}
@@ -14,6 +14,10 @@ use Rattle.parsing.proofs.read_dependencies.Given as goal
 abbrev pub At : List ℕ → List ℕ → ℕ → List Dependency → ℕ → List ℕ → Type 0
 At schema part n ds i left = Counting (λ n. leb n 32) 32 no_dependency blank_dependency (dependency schema) part n ds i left
 
-abbrev pub invariant-loop-i : goal.invariant-loop-i
-invariant-loop-i l =
-    (l.i ≤ l.n) × (l.n ≤ 32) × (length l.dependencies ≡ 32) × At (widths_in l.schema) l.part l.n l.dependencies l.i l.rest
+-- The slots, of which the first n are lent to the loop
+abbrev pub slots : ℕ → List Dependency → List Dependency
+slots n lent = lent ++ drop n (replicate 32 no_dependency)
+
+abbrev pub invariant-loop-slot : goal.invariant-loop-slot
+invariant-loop-slot l =
+    (l.n ≤ 32) × (length l.slot-items ≡ l.n) × At (widths_in l.schema) l.part l.n (slots l.n l.slot-items) l.slot-index l.rest

@@ -3,7 +3,8 @@ use mathlib.Core.Path.{◌≡◌, refl, sym, ap, ◌∙◌}
 use mathlib.Core.List.{List, [], ◌∷◌}
 use Prim.Native.Nat.{ℕ, ◌+◌, ◌≤◌, ◌<◌}
 use native.Mathlib.Omega.{arith}
-use lib.ListN.{length, set, replicate, length-set}
+use lib.ListN.{length, set, take, drop, replicate, length-set}
+use lib.Seq.{length-take-le}
 use borrow.Author.Rules.{rules}
 use borrow.Author.Tests.{eqb-true, eqb-false}
 use Rattle.refusals.specs.Refusals.{bad_join}
@@ -17,8 +18,8 @@ use Rattle.format.specs.File.{complete, read_joins}
 use Rattle.std.proofs.Common.{None, Some}
 use Rattle.limits.specs.Schema.{widths_in}
 use Rattle.parsing.specs.internal.Read.{value_given, reading_of}
-use Rattle.parsing.proofs.Counted.{byte-read, no-count, counting-starts, counting-turns, counting-fails, counting-ends, counting-long}
-use Rattle.parsing.proofs.read_joins.Invariants.{At}
+use Rattle.parsing.proofs.Counted.{byte-read, no-count, counting-lends, counting-turns-lent, counting-fails, counting-ends, counting-long}
+use Rattle.parsing.proofs.read_joins.Invariants.{At, slots}
 use Rattle.parsing.proofs.read_joins.Goals as goal
 use Rattle.parsing.proofs.read_joins.Goals.{Else-is_empty}
 
@@ -34,19 +35,20 @@ some_bytes schema [] e = absurd (e refl)
 some_bytes schema (b ∷ part) e = refl
 
 module _ (schema part : List ℕ) (some : length part ≡ 0 → ⊥) where
-  begins : (n : ℕ) (front : List ℕ) → get_byte (between 1 4) part ≡ got n front → (n ≤ 4) × At schema part n (replicate 4 no_join) 0 front
+  begins : (n : ℕ) (front : List ℕ) → get_byte (between 1 4) part ≡ got n front → (n ≤ 4) × At schema part n (slots n (take n (replicate 4 no_join))) 0 front
   begins n front e =
-      ((between-true 1 4 n (byte-read (between 1 4) part n front e)).1, counting-starts (between 1 4) 4 no_join unused_join (join schema) part n front e)
+      ((between-true 1 4 n (byte-read (between 1 4) part n front e)).1, counting-lends (between 1 4) 4 no_join unused_join (join schema) part n front e)
 
   no-joins-read : get_byte (between 1 4) part ≡ none → None ≡ value_given (read_joins schema part)
   unfolding joins
   no-joins-read e =
       sym (ap value_given (some_bytes schema part some ∙ no-count (between 1 4) 4 no_join unused_join (join schema) part bad_join e))
 
-  module _ (n : ℕ) (js : List JoinDependency) (i : ℕ) (left : List ℕ) (f : At schema part n js i left) where
-    goes_on : i < n → i < length js → (j : JoinDependency) (next : List ℕ) → (join schema).get left ≡ got j next
-        → At schema part n (set js i j) (i + 1) next
-    goes_on h l j next e = counting-turns (between 1 4) 4 no_join unused_join (join schema) part f j next h l e
+  module _ (n : ℕ) (lent : List JoinDependency) (i : ℕ) (left : List ℕ) (f : At schema part n (slots n lent) i left) where
+    goes_on : i < n → i < length lent → (j : JoinDependency) (next : List ℕ) → (join schema).get left ≡ got j next
+        → At schema part n (slots n (set lent i j)) (i + 1) next
+    goes_on h l j next e =
+        counting-turns-lent (between 1 4) 4 no_join unused_join (join schema) part lent (drop n (replicate 4 no_join)) f j next h l e
 
     fails : i < n → (join schema).get left ≡ none → None ≡ value_given (read_joins schema part)
     unfolding joins
@@ -58,7 +60,7 @@ module _ (schema part : List ℕ) (some : length part ≡ 0 → ⊥) where
     too_long l t =
         sym (ap value_given (some_bytes schema part some ∙ counting-long (between 1 4) 4 no_join unused_join (join schema) part f bad_join l t))
 
-    accepted : n ≤ i → length left ≡ 0 → Some (n, js) ≡ value_given (read_joins schema part)
+    accepted : n ≤ i → length left ≡ 0 → Some (n, slots n lent) ≡ value_given (read_joins schema part)
     unfolding joins
     accepted l t =
         sym (ap value_given (some_bytes schema part some ∙ counting-ends (between 1 4) 4 no_join unused_join (join schema) part f bad_join l t))
@@ -76,34 +78,53 @@ returns-in_err-joined c =
     ∙ no-joins-read (widths_in c.args.schema) c.args.part.now (some_left (goal.at.returns-in_err-joined c).Else-is_empty)
     (sym c.read_byte.ensures ∙ ap reading_of c.in_err-joined.was)
 
-pub loop-i-init : goal.loop-i-init
-loop-i-init c =
+pub slice_bounds-joins-end : goal.slice_bounds-joins-end
+slice_bounds-joins-end c = (between-true 1 4 _ (byte-read (between 1 4) _ _ _ (sym c.read_byte.ensures ∙ ap reading_of c.in_ok-joined.was))).1
+
+pub slice_bounds-slot-items-end : goal.slice_bounds-slot-items-end
+slice_bounds-slot-items-end c =
+    let few : c.in_ok-joined.joined ≤ 4 =
+    (between-true 1 4 _ (byte-read (between 1 4) _ _ _ (sym c.read_byte.ensures ∙ ap reading_of c.in_ok-joined.was))).1
+    in
+    search rules
+
+pub loop-slot-init : goal.loop-slot-init
+loop-slot-init c =
+    let n = c.in_ok-joined.joined in
     let (few, f) =
-    begins (widths_in c.args.schema) c.args.part.now (some_left (goal.at.loop-i-init c).Else-is_empty) c.in_ok-joined.joined
-    c.in_ok-joined.front.now (sym c.read_byte.ensures ∙ ap reading_of c.in_ok-joined.was) in
-    (omega arith, few, refl, f)
+    begins (widths_in c.args.schema) c.args.part.now (some_left (goal.at.loop-slot-init c).Else-is_empty) n c.in_ok-joined.front.now
+    (sym c.read_byte.ensures ∙ ap reading_of c.in_ok-joined.was)
+    in
+    (few, length-take-le n (replicate 4 no_join) few, f)
 
 pub returns-in_err-j : goal.returns-in_err-j
 returns-in_err-j c =
+    let l = c.loop-slot in
+    let inside : l.slot-index < length l.slot-items = rw l.auto.slot-items c.loop-slot-test.true in
     c.from_residual-in_err-j.ensures
-    ∙ fails (widths_in c.args.schema) c.args.part.now (some_left (goal.at.returns-in_err-j c).Else-is_empty) _ _ _ _ c.loop-i.invariant.3
-    c.loop-i-test.true (sym c.read_join.ensures ∙ ap reading_of c.in_err-j.was)
+    ∙ fails (widths_in c.args.schema) c.args.part.now (some_left (goal.at.returns-in_err-j c).Else-is_empty) _ _ _ _ l.invariant.2
+    (omega (arith, l.invariant.1, inside)) (sym c.read_join.ensures ∙ ap reading_of c.in_err-j.was)
 
-pub loop-i-preserved : goal.loop-i-preserved
-loop-i-preserved c = (
-  search rules,
-  c.loop-i.invariant.1,
-  length-set c.loop-i.joins c.loop-i.i c.in_ok-j.j ∙ c.loop-i.invariant.2,
-  goes_on (widths_in c.args.schema) c.args.part.now (some_left (goal.at.loop-i-preserved c).Else-is_empty) _ _ _ _ c.loop-i.invariant.3
-      c.loop-i-test.true (omega arith) c.in_ok-j.j c.in_ok-j.after.now (sym c.read_join.ensures ∙ ap reading_of c.in_ok-j.was),
-)
+pub loop-slot-preserved : goal.loop-slot-preserved
+loop-slot-preserved c =
+    let l = c.loop-slot in
+    let inside : l.slot-index < length l.slot-items = rw l.auto.slot-items c.loop-slot-test.true in (
+      l.invariant.0,
+      length-set l.slot-items l.slot-index c.in_ok-j.j ∙ l.invariant.1,
+      goes_on (widths_in c.args.schema) c.args.part.now (some_left (goal.at.loop-slot-preserved c).Else-is_empty) _ _ _ _ l.invariant.2
+          (omega (arith, l.invariant.1)) inside c.in_ok-j.j c.in_ok-j.after.now (sym c.read_join.ensures ∙ ap reading_of c.in_ok-j.was),
+    )
 
 pub returns-then-not-is_empty : goal.returns-then-not-is_empty
 returns-then-not-is_empty c =
-    too_long (widths_in c.args.schema) c.args.part.now (some_left (goal.at.returns-then-not-is_empty c).Else-is_empty) _ _ _ _ c.loop-i.invariant.3
-    c.loop-i-test.false (eqb-false _ _ (sym c.is_empty-2.ensures ∙ c.if-not-is_empty.true))
+    let l = c.loop-slot in
+    let past : length l.slot-items ≤ l.slot-index = rw l.auto.slot-items c.loop-slot-test.false in
+    too_long (widths_in c.args.schema) c.args.part.now (some_left (goal.at.returns-then-not-is_empty c).Else-is_empty) _ _ _ _ l.invariant.2
+    (omega (arith, l.invariant.1)) (eqb-false _ _ (sym c.is_empty-2.ensures ∙ c.if-not-is_empty.true))
 
 pub returns : goal.returns
 returns c =
-    accepted (widths_in c.args.schema) c.args.part.now (some_left (goal.at.returns c).Else-is_empty) _ _ _ _ c.loop-i.invariant.3
-    c.loop-i-test.false (eqb-true _ _ (sym c.is_empty-2.ensures ∙ c.if-not-is_empty.false))
+    let l = c.loop-slot in
+    let past : length l.slot-items ≤ l.slot-index = rw l.auto.slot-items c.loop-slot-test.false in
+    accepted (widths_in c.args.schema) c.args.part.now (some_left (goal.at.returns c).Else-is_empty) _ _ _ _ l.invariant.2
+    (omega (arith, l.invariant.1)) (eqb-true _ _ (sym c.is_empty-2.ensures ∙ c.if-not-is_empty.false))

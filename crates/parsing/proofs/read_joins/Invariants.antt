@@ -1,8 +1,8 @@
 -- `parsing::read_joins` meets its contract. Invariant: what has been read of the bytes. Assumes nothing.
 use mathlib.Core.Path.{◌≡◌}
-use mathlib.Core.List.{List}
+use mathlib.Core.List.{List, ◌++◌}
 use Prim.Native.Nat.{ℕ, ◌≤◌}
-use lib.ListN.{length}
+use lib.ListN.{length, drop, replicate}
 use Rattle.lists.specs.Tests.{between}
 use Rattle.query.specs.declared.JoinDependency.{JoinDependency}
 use Rattle.query.specs.Rule.{no_join}
@@ -15,5 +15,9 @@ use Rattle.parsing.proofs.read_joins.Given as goal
 abbrev pub At : List ℕ → List ℕ → ℕ → List JoinDependency → ℕ → List ℕ → Type 0
 At schema part n js i left = Counting (between 1 4) 4 no_join unused_join (join schema) part n js i left
 
-abbrev pub invariant-loop-i : goal.invariant-loop-i
-invariant-loop-i l = (l.i ≤ l.n) × (l.n ≤ 4) × (length l.joins ≡ 4) × At (widths_in l.schema) l.part l.n l.joins l.i l.rest
+-- The slots, of which the first n are lent to the loop
+abbrev pub slots : ℕ → List JoinDependency → List JoinDependency
+slots n lent = lent ++ drop n (replicate 4 no_join)
+
+abbrev pub invariant-loop-slot : goal.invariant-loop-slot
+invariant-loop-slot l = (l.n ≤ 4) × (length l.slot-items ≡ l.n) × At (widths_in l.schema) l.part l.n (slots l.n l.slot-items) l.slot-index l.rest
