@@ -35,6 +35,7 @@ fn candidates(size: usize, count: usize, r: usize) -> usize
 
 // The candidates of row q that go together with candidate d of row r.
 // Kept as it is: source, target, size and count stay parameters: what is called below reads one or two of the four, and would be handed them one by one.
+// Source and target are slices, as in `agree`, and their lengths stand in `Laid` beside the counts, a clause that arrays would leave in each contract.
 fn together(
     source: &[u32],
     target: &[u32],

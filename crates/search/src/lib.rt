@@ -31,7 +31,7 @@ fn next_row(links: &[u16; 13], rows: usize, state: State) -> Option<usize>
     ensures { IsNext rows state.placed result }
 {
     let mut best: Option<Best> = None;
-    // Kept as it is: the index serves the candidates and the links, and is a bit of the mask; a chain would zip both, filter by the bit and keep the number.
+    // Kept as it is: `filter` and `min_by_key` over the numbers, as fast, was tried: that none is left only where all are placed did not prove.
     for q in 0..rows {
         if (state.placed >> q) % 2 == 0 {
             let rank = rank(state.current[q], links[q] & !state.placed);
