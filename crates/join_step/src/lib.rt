@@ -18,7 +18,7 @@ pub struct NextRow {
 }
 
 // The codes of cells.
-// Kept as it is: `mapping::cells::codes` has this body; it stands above this crate, and speaks of the cells in the form that a mapping needs.
+// Kept as it is: `mapping::cells::codes` has this body, and says frozen entries of its result; a chase that asks the mapping search for codes is no plainer.
 fn codes_of(cells: [Cell; 192]) -> [u32; 192]
     ensures { result ≡ codes_of cells }
 {

@@ -119,7 +119,7 @@ fn first_choice(
     ensures { result ≡ rows_chosen (first_choice schema.now (join_of j) (database_of schema.now words.now)) }
 {
     let at = choose(words, schema, j, 0, 0, [0; 8], heads, nodes)?;
-    // Kept as it is: of `at.map(..)` the proof did not close: for a closure that asks something the library has a lemma over ranges, and none over arrays.
+    // Kept as it is: `at.map(..)` was tried, and the proof of what its closure asks at each place did not close.
     let a = join_lookup::position_of(words, schema, at[0]);
     let b = join_lookup::position_of(words, schema, at[1]);
     let c = join_lookup::position_of(words, schema, at[2]);

@@ -1,7 +1,7 @@
 -- `join_search::firsts` meets its contract: element by element. Assumes nothing.
 use mathlib.Core.Path.{◌≡◌}
 use mathlib.Core.Bool.{false}
-use Prim.Native.Nat.{ℕ, ◌≤◌, ◌<◌}
+use Prim.Native.Nat.{ℕ, ◌<◌}
 use lib.ListN.{length, get_or}
 use mathlib.Core.Bool.{Bool}
 use mathlib.Core.List.{List}
