@@ -1,11 +1,12 @@
 // Whether a record is as it should be, part by part, and its schema then.
-ghost use Rattle.std.specs.Prelude.{◌≡◌, true};
+ghost use Rattle.std.specs.Prelude.{◌≡◌, ◌≤◌, true, take};
 ghost use Rattle.limits.specs.Schema.{widths_in};
 ghost use Rattle.record.specs.Rule.{good_record};
 ghost use Rattle.record.specs.View.{schema_of};
 
 use crate::Record;
 use limits::schema::Schema;
+use query::Dependency;
 
 impl Record {
     // Whether the record is as SPECIFICATION, The record, has it: what refusal 14 asks.
@@ -33,5 +34,13 @@ impl Record {
             relations: self.relations,
             widths,
         }
+    }
+
+    // The functional dependencies that are held.
+    pub fn dependencies_held(&self) -> &[Dependency]
+        requires { self.now.held ≤ 32 }
+        ensures { result.now ≡ take self.now.held self.now.dependencies }
+    {
+        &self.dependencies[..self.held as usize]
     }
 }

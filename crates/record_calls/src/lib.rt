@@ -75,15 +75,13 @@ pub fn drop_query(given: Record, place: usize) -> Outcome
 pub fn determined(given: Record, relation: u8, left: u8) -> Result<Columns, Refusal>
     ensures { columns_reply result ≡ determined_columns given relation left }
 {
-    let held = given.held;
-    let dependencies = given.dependencies;
     if !given.is_good() {
         return Err(Refusal::BadRecord);
     }
     if !given.schema().set_good(relation, left) {
         return Err(Refusal::BadDependency);
     }
-    let mask = closure::closed_columns(&dependencies[..held as usize], relation, left);
+    let mask = closure::closed_columns(given.dependencies_held(), relation, left);
     let count = u8::count_ones(mask) as u8;
     Ok(Columns { set: mask, count })
 }

@@ -71,7 +71,7 @@ fn store_reduced(given: Record, source: usize, target: usize) -> Reduced
     ensures { ShortFormStored given source target result }
 {
     let long = stored(given, source);
-    let shortened = shorten(long, &given.dependencies[..given.held as usize]);
+    let shortened = shorten(long, given.dependencies_held());
     let short = shortened.query;
     let images = shortened.images;
     let filled = Place {

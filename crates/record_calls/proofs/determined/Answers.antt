@@ -2,7 +2,7 @@
 -- Assumes nothing.
 use mathlib.Core.Path.{◌≡◌, sym, ap, ◌∙◌}
 use mathlib.Core.List.{List, map}
-use Prim.Native.Nat.{ℕ, ◌≤◌}
+use Prim.Native.Nat.{ℕ}
 use native.Mathlib.Omega.{arith}
 use lib.Seq.{length-take-le}
 use mathlib.Core.Bool.{true}
@@ -40,22 +40,12 @@ returns-then-not-set_good c =
     determined-unfit c.args.given c.args.relation
     c.args.left (good (goal.at.returns-then-not-set_good c).Else-not-is_good) (ap (λ (schema : List ℕ). good_set schema c.args.relation c.args.left) (sym c.schema.ensures.value) ∙ sym c.set_good.ensures ∙ c.if-not-set_good.true)
 
-fits : (held : ℕ) (xs : List Dependency) → held ≤ 32 → length xs ≡ 32 → held ≤ length xs
-fits held xs h l = omega arith
-
-pub slice_bounds-dependencies-end : goal.slice_bounds-dependencies-end
-slice_bounds-dependencies-end c =
-    let long : length c.args.given.dependencies ≡ 32 = search (mapped-length, rules) in
-    fits c.args.given.held c.args.given.dependencies (good-record c.args.given (good (goal.at.slice_bounds-dependencies-end c).Else-not-is_good)).held long
-
-pub slice_bounds-closed_columns-end : goal.slice_bounds-closed_columns-end
-slice_bounds-closed_columns-end c =
-    let long : length c.args.given.dependencies ≡ 32 = search (mapped-length, rules) in
-    sym (length-take-le c.args.given.held c.args.given.dependencies
-    (fits c.args.given.held c.args.given.dependencies (good-record c.args.given (good (goal.at.slice_bounds-closed_columns-end c).Else-not-is_good)).held long))
+pub dependencies_held-requires : goal.dependencies_held-requires
+dependencies_held-requires c = (good-record c.args.given (good (goal.at.dependencies_held-requires c).Else-not-is_good)).held
 
 pub closed_columns-mask-requires : goal.closed_columns-mask-requires
-closed_columns-mask-requires c = rights-narrow c.args.given (good (goal.at.closed_columns-mask-requires c).Else-not-is_good)
+closed_columns-mask-requires c =
+    rw c.dependencies_held.ensures (rights-narrow c.args.given (good (goal.at.closed_columns-mask-requires c).Else-not-is_good))
 
 pub overflow_cast-count : goal.overflow_cast-count
 overflow_cast-count c = record { fits = lt_of_le_of_lt (ones-le 8 _ (search rules)) (lit< tt) }
@@ -69,5 +59,6 @@ returns c =
     (good (goal.at.returns c).Else-not-is_good) (ap (λ (schema : List ℕ). good_set schema c.args.relation c.args.left) (sym c.schema.ensures.value) ∙ sym c.set_good.ensures ∙ c.if-not-set_good.false) long
     c.closed_columns-mask.result
     (c.closed_columns-mask.ensures
+    ∙ ap (λ (ds : List Dependency). grow_mask (length ds) (map dependency_of ds) c.args.relation c.args.left) c.dependencies_held.ensures
     ∙ ap (λ (n : ℕ). grow_mask n (map dependency_of (take given.held given.dependencies)) c.args.relation c.args.left)
     (length-take-le given.held given.dependencies (omega (arith, (good-record given (good (goal.at.returns c).Else-not-is_good)).held))))

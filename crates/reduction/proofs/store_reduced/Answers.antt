@@ -15,7 +15,8 @@ stored-long-requires c = c.requires.source-low
 
 pub shorten-shortened-requires : goal.shorten-shortened-requires
 shorten-shortened-requires c =
-    able-shortenable c.args.given c.args.source c.args.target c.requires (eight (goal.at.shorten-shortened-requires c).Start) _ c.stored-long.ensures
+    rw c.dependencies_held.ensures
+    (able-shortenable c.args.given c.args.source c.args.target c.requires (eight (goal.at.shorten-shortened-requires c).Start) _ c.stored-long.ensures)
 
 pub with_place-requires : goal.with_place-requires
 with_place-requires c = c.requires.target-low
@@ -24,7 +25,7 @@ pub returns : goal.returns
 returns c =
     rw c.with_place.ensures
     (stored-reduced c.args.given c.args.source c.args.target c.requires (eight (goal.at.returns c).Start) _ c.stored-long.ensures
-    c.shorten-shortened.result c.shorten-shortened.ensures)
+    c.shorten-shortened.result (rw c.dependencies_held.ensures at c.shorten-shortened.ensures))
 
-pub shared_ref_as_front-shorten : goal.shared_ref_as_front-shorten
-shared_ref_as_front-shorten c = (good-record c.args.given c.requires.good).held
+pub dependencies_held-requires : goal.dependencies_held-requires
+dependencies_held-requires c = (good-record c.args.given c.requires.good).held
