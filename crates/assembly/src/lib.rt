@@ -7,7 +7,7 @@ ghost use mathlib.Core.List.{map, flatten};
 ghost use Rattle.lists.specs.Tests.{every};
 ghost use Rattle.lists.specs.Over.{over};
 ghost use Rattle.query.specs.Rule.{good_place};
-ghost use Rattle.limits.specs.Schema.{widths_in};
+ghost use Rattle.limits.specs.internal.Schema.{widths_in};
 ghost use Rattle.record.specs.Rule.{good_record};
 ghost use Rattle.format.specs.Parts.{relations};
 ghost use Rattle.format.specs.File.{table_of, put_place, up_to_filled};

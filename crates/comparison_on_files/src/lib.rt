@@ -4,7 +4,7 @@
 
 ghost use Rattle.std.specs.Prelude.{◌≡◌, true, cond, ◌&&◌, [], eqb, ltb, length, replicate};
 ghost use Rattle.query.specs.View.{as_query};
-ghost use Rattle.limits.specs.Schema.{widths_in};
+ghost use Rattle.limits.specs.internal.Schema.{widths_in};
 ghost use Rattle.query.specs.Rule.{good_tableau, no_cell};
 ghost use Rattle.format.specs.Parts.{query_for};
 ghost use Rattle.refusals.specs.Refusals.{reply, buffer_too_short, too_many_rows};

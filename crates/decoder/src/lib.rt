@@ -2,7 +2,7 @@
 #![tactic(auto)]
 
 ghost use Rattle.std.specs.Prelude.{◌≡◌, true, take};
-ghost use Rattle.limits.specs.Schema.{widths_in};
+ghost use Rattle.limits.specs.internal.Schema.{widths_in};
 ghost use Rattle.refusals.specs.Refusal.{reply_of};
 ghost use Rattle.format.specs.File.{is_vacant, read_place};
 

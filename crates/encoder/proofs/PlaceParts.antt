@@ -20,7 +20,7 @@ use Rattle.format.specs.File.{put_place}
 use Rattle.lists.proofs.Tests.{and_left}
 use Rattle.format.proofs.Parts.{Narrow, narrow_at}
 use Rattle.format.proofs.Rules.{good-narrow}
-use Rattle.limits.specs.Schema.{widths_in}
+use Rattle.limits.specs.internal.Schema.{widths_in}
 use Rattle.limits.specs.declared.schema.Schema.{Schema}
 use Rattle.query.proofs.Good.{good-query}
 use Rattle.query.proofs.Shape.{SizedFor}

@@ -7,7 +7,7 @@ ghost use mathlib.Core.List.{◌∷◌, flat_map};
 ghost use Rattle.lists.specs.Over.{over};
 ghost use Rattle.query.specs.View.{as_query};
 ghost use Rattle.query.specs.Rule.{good_place};
-ghost use Rattle.limits.specs.Schema.{widths_in};
+ghost use Rattle.limits.specs.internal.Schema.{widths_in};
 ghost use Rattle.format.specs.Bytes.{bytes_of};
 ghost use Rattle.format.specs.Parts.{put_entry, entry, row, chunk, query_for};
 ghost use Rattle.format.specs.File.{put_place};

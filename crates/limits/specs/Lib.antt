@@ -1,3 +1,2 @@
--- What a schema's fields mean. `internal` is this crate's own.
-pub mod Schema
+-- `internal` is this crate's own, and of the crates that take a schema.
 pub mod internal

@@ -10,7 +10,7 @@ ghost use Rattle.limits.specs.internal.Entries.{names_variable, safe_cell};
 ghost use Rattle.limits.specs.internal.Answers.{AnswersAs};
 ghost use Rattle.query.specs.Rule.{blank_cell, blank_dependency, blank_query, good_relations, good_set, good_dependency, good_dependencies, good_cell, good_row, good_rows, good_query, head_safe, good_place};
 ghost use Rattle.query.specs.Rule.{blank_join, good_join, good_joins};
-ghost use Rattle.limits.specs.Schema.{widths_in};
+ghost use Rattle.limits.specs.internal.Schema.{widths_in};
 ghost use Rattle.lists.specs.Tests.{between, every, in_use, is_zero};
 ghost use Rattle.lists.specs.Numbers.{numbers_where};
 

@@ -1,6 +1,6 @@
 // Whether a record is as it should be, part by part, and its schema then.
 ghost use Rattle.std.specs.Prelude.{◌≡◌, ◌≤◌, true, take};
-ghost use Rattle.limits.specs.Schema.{widths_in};
+ghost use Rattle.limits.specs.internal.Schema.{widths_in};
 ghost use Rattle.record.specs.Rule.{good_record};
 ghost use Rattle.record.specs.View.{schema_of};
 

@@ -22,7 +22,7 @@ use Rattle.record.proofs.Stored as stored
 use Rattle.reduction.specs.declared.Reduced.{Reduced}
 use Rattle.reduction.specs.Reduced.{reduction_refusal, ReducesTo, IsReduced}
 use Rattle.text.specs.Text.{place_text}
-use Rattle.limits.specs.Schema.{widths_in}
+use Rattle.limits.specs.internal.Schema.{widths_in}
 use Rattle.limits.specs.declared.schema.Schema.{Schema}
 use Rattle.text.specs.internal.Listable.{place_room, Listable}
 use Rattle.printing.specs.internal.Writing.{WrittenAt}

@@ -5,7 +5,7 @@
 ghost use Rattle.std.specs.Prelude.{◌≡◌, ◌+◌, ◌*◌, ◌≤◌, true, [], ◌∷◌, ◌++◌, length, take, drop};
 ghost use Rattle.query.specs.View.{entry_of, entries_of, query_of, images_of};
 ghost use Rattle.query.specs.Rule.{good_query};
-ghost use Rattle.limits.specs.Schema.{widths_in};
+ghost use Rattle.limits.specs.internal.Schema.{widths_in};
 ghost use Rattle.printing.specs.internal.Writing.{Fits, WrittenAt};
 ghost use Rattle.text.specs.Text.{entry_text, entries_text, place_line, never_line, head_line, row_line, rows_text, image_text, images_text, map_line, place_text, refused_text};
 ghost use Rattle.text.specs.internal.Listable.{row_of_cells, variables_in_rows, Listable};

@@ -8,7 +8,7 @@ use Rattle.query.specs.Rule.{good_place}
 use Rattle.format.specs.File.{put_place}
 use Rattle.lists.proofs.Tests.{every-get_or}
 use Rattle.query.proofs.Shape.{past_place}
-use Rattle.limits.specs.Schema.{widths_in}
+use Rattle.limits.specs.internal.Schema.{widths_in}
 use Rattle.assembly.proofs.FirstPlaces.{parts_next, parts-end}
 use Rattle.assembly.proofs.places_length.Goals as goal
 

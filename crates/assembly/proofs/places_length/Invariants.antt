@@ -4,7 +4,7 @@ use mathlib.Core.List.{map, flatten}
 use Prim.Native.Nat.{◌+◌, ◌*◌, ◌≤◌}
 use lib.ListN.{length, drop}
 use Rattle.format.specs.File.{put_place}
-use Rattle.limits.specs.Schema.{widths_in}
+use Rattle.limits.specs.internal.Schema.{widths_in}
 use Rattle.assembly.proofs.places_length.Given as goal
 
 abbrev pub invariant-loop-place : goal.invariant-loop-place

@@ -9,7 +9,7 @@ use Rattle.format.specs.Bytes.{bytes_of}
 use Rattle.format.specs.File.{table_of, put_place}
 use Rattle.format.proofs.Directory.{length-table}
 use Rattle.encoder.proofs.Stores.{Run, run-starts, run-turns, word-run}
-use Rattle.limits.specs.Schema.{widths_in}
+use Rattle.limits.specs.internal.Schema.{widths_in}
 use Rattle.assembly.proofs.put_directory.Goals as goal
 use Rattle.assembly.proofs.put_directory.Goals.{After-put_table}
 

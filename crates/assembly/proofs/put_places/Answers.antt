@@ -8,7 +8,7 @@ use Rattle.format.specs.File.{put_place}
 use Rattle.lists.proofs.Tests.{every-get_or}
 use Rattle.query.proofs.Shape.{past_place}
 use Rattle.encoder.proofs.Stores.{writing-starts, writing-room, writing-turns, writing-ends}
-use Rattle.limits.specs.Schema.{widths_in}
+use Rattle.limits.specs.internal.Schema.{widths_in}
 use Rattle.assembly.proofs.put_places.Goals as goal
 
 joined : (f : Place → List ℕ) (ps : List Place) → flatten (map f ps) ≡ flat_map f ps

@@ -1,6 +1,6 @@
 use Rattle.format.specs.File.{put_place}
 use Rattle.encoder.proofs.Stores.{Writing}
-use Rattle.limits.specs.Schema.{widths_in}
+use Rattle.limits.specs.internal.Schema.{widths_in}
 use Rattle.assembly.proofs.put_places.Given as goal
 
 abbrev pub invariant-loop-place : goal.invariant-loop-place

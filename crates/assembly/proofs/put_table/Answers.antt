@@ -13,7 +13,7 @@ use Rattle.lists.proofs.Tests.{every-get_or}
 use Rattle.query.proofs.Shape.{past_place}
 use Rattle.format.proofs.Numbers.{length-bytes}
 use Rattle.format.proofs.Directory.{length-table}
-use Rattle.limits.specs.Schema.{widths_in}
+use Rattle.limits.specs.internal.Schema.{widths_in}
 use Rattle.assembly.proofs.FirstPlaces.{parts_next, parts-end}
 use Rattle.assembly.proofs.put_table.Invariants.{parts_from, At}
 use Rattle.assembly.proofs.put_table.Goals as goal

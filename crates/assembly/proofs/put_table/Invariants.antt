@@ -5,7 +5,7 @@ use lib.ListN.{length, drop}
 use Rattle.query.specs.declared.Place.{Place}
 use Rattle.lists.specs.Over.{over}
 use Rattle.format.specs.File.{table_of, put_place}
-use Rattle.limits.specs.Schema.{widths_in}
+use Rattle.limits.specs.internal.Schema.{widths_in}
 use Rattle.assembly.proofs.put_table.Given as goal
 
 -- The parts from place k on

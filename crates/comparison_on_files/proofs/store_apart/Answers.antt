@@ -1,7 +1,7 @@
 -- `store_apart` stores a verdict with its query. Assumes nothing.
 use Rattle.std.proofs.Common.{◌≡◌, ◌≤◌, ◌<◌, length, arith}
 use Rattle.std.proofs.Math.ListN.{replicate}
-use Rattle.limits.specs.Schema.{widths_in}
+use Rattle.limits.specs.internal.Schema.{widths_in}
 use Rattle.query.specs.View.{as_query}
 use Rattle.query.specs.Rule.{no_cell}
 use Rattle.query.proofs.Good.{good-query}

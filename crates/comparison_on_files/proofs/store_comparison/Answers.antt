@@ -1,7 +1,7 @@
 -- `store_comparison` stores what the verdict asks for. Assumes nothing.
 use Rattle.std.proofs.Common.{◌≡◌, refl, sym, ap, ◌∙◌, length}
 use Rattle.std.specs.Prelude.{Ok, Err}
-use Rattle.limits.specs.Schema.{widths_in}
+use Rattle.limits.specs.internal.Schema.{widths_in}
 use Rattle.comparison.specs.declared.Verdict.TheVariants as verdict
 use Rattle.refusals.specs.Refusals.{refused}
 use Rattle.comparison_on_files.proofs.Verdicts.{given-as, comparison-none, comparison-apart, comparison-contained, comparison-never, comparison-refused}

@@ -17,7 +17,7 @@ use Rattle.format.specs.File.{complete, is_vacant, safe_query, read_place}
 use Rattle.format.proofs.Bytes.{bytes-known}
 use Rattle.format.proofs.Parts.{Narrow, query-lawful}
 use Rattle.format.proofs.Rules.{good-query, good-narrow}
-use Rattle.limits.specs.Schema.{widths_in}
+use Rattle.limits.specs.internal.Schema.{widths_in}
 use Rattle.parsing.specs.internal.Read.{reading_of}
 use Rattle.std.specs.Prelude.{Option as Maybe, None, Some, Ok, Err, ok_or}
 use Rattle.std.proofs.lemmas.Result.{err_from_is_err_and}

@@ -4,7 +4,7 @@ use native.Mathlib.Omega.{arith}
 use lib.ListN.{length}
 use Rattle.query.proofs.Shape.{SizedFor}
 use Rattle.lists.proofs.Loops.{mapped-length}
-use Rattle.limits.specs.Schema.{widths_in}
+use Rattle.limits.specs.internal.Schema.{widths_in}
 use Rattle.encoder.proofs.PlaceParts.{filled-part, vacant-part, filled-sizes}
 use Rattle.encoder.proofs.place_length.Goals as goal
 use Rattle.encoder.proofs.place_length.Goals.{Start}

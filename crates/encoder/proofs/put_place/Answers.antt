@@ -9,7 +9,7 @@ use Rattle.query.proofs.Shape.{SizedFor}
 use Rattle.lists.proofs.Loops.{mapped-length}
 use Rattle.format.specs.Parts.{query_for}
 use Rattle.format.specs.File.{put_place}
-use Rattle.limits.specs.Schema.{widths_in}
+use Rattle.limits.specs.internal.Schema.{widths_in}
 use Rattle.encoder.proofs.PlaceParts.{filled-part, vacant-part, filled-sizes}
 use Rattle.encoder.proofs.put_place.Goals as goal
 use Rattle.encoder.proofs.put_place.Goals.{After-from_query, Start}

@@ -19,7 +19,7 @@ use Rattle.lists.proofs.Over.{over-length, over-over}
 use Rattle.lists.proofs.Loops.{mapped-length}
 use Rattle.format.proofs.Parts.{head_fits}
 use Rattle.format.proofs.Lengths.{length-flat_map, length-query}
-use Rattle.limits.specs.Schema.{widths_in}
+use Rattle.limits.specs.internal.Schema.{widths_in}
 use Rattle.encoder.proofs.Stores.{length-cell, two-stores}
 use Rattle.encoder.proofs.put_query.Goals as goal
 use Rattle.encoder.proofs.put_query.Goals.{After-head_in_use-used, After-put_entries, Start}

@@ -13,7 +13,7 @@ use Rattle.format.specs.Format.{byte, sequence, padded}
 use Rattle.format.specs.Parts.{entry, entries, row, no_row, chunk}
 use Rattle.format.proofs.Rules.{length-chunk}
 use Rattle.format.proofs.Lengths.{length-flat_map}
-use Rattle.limits.specs.Schema.{widths_in}
+use Rattle.limits.specs.internal.Schema.{widths_in}
 use Rattle.encoder.proofs.PlaceParts.{wide}
 use Rattle.encoder.proofs.Stores.{length-cell, Writing, writing-room, writing-turns, writing-ends}
 use Rattle.encoder.proofs.put_rows.Goals as goal

@@ -1,6 +1,6 @@
 -- row r of relations and cells
 use Rattle.format.specs.Parts.{row, chunk}
-use Rattle.limits.specs.Schema.{widths_in}
+use Rattle.limits.specs.internal.Schema.{widths_in}
 use Rattle.encoder.proofs.Stores.{Writing}
 use Rattle.encoder.proofs.put_rows.Given as goal
 

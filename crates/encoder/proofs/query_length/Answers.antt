@@ -6,7 +6,7 @@ use Rattle.query.proofs.Shape.{SizedFor}
 use Rattle.format.proofs.Parts.{head_fits}
 use Rattle.format.proofs.Rules.{good-narrow}
 use Rattle.lists.proofs.Loops.{mapped-length}
-use Rattle.limits.specs.Schema.{widths_in}
+use Rattle.limits.specs.internal.Schema.{widths_in}
 use Rattle.encoder.proofs.PlaceParts.{query-exact}
 use lib.ListN.{length-take}
 use Rattle.encoder.proofs.query_length.Goals as goal

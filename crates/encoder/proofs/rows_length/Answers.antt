@@ -1,7 +1,7 @@
 -- The bytes of the rows so far, and of those that are left
 use Rattle.std.proofs.Common.{◌≡◌, ℕ, ◌+◌, ◌*◌, ◌≤◌, ◌<◌, List, length, drop, get_or, arith, add-one, drop-cons}
 use lib.ListN.{drop_of_length-le}
-use Rattle.limits.specs.Schema.{widths_in}
+use Rattle.limits.specs.internal.Schema.{widths_in}
 use Rattle.encoder.specs.internal.Lengths.{rows_length}
 use Rattle.encoder.proofs.PlaceParts.{wide}
 use Rattle.encoder.proofs.rows_length.Goals as goal

@@ -12,7 +12,7 @@ use Rattle.query.specs.declared.Dependency.{Dependency}
 use Rattle.query.specs.Rule.{blank_dependency, no_dependency}
 use Rattle.format.specs.Format.{none, got, get_byte}
 use Rattle.format.specs.Parts.{dependency, dependencies}
-use Rattle.limits.specs.Schema.{widths_in}
+use Rattle.limits.specs.internal.Schema.{widths_in}
 use Rattle.parsing.specs.internal.Read.{reading_of}
 use Rattle.parsing.proofs.Counted.{no-low, byte-within, counting-lends, counting-turns-lent, counting-fails-front, counting-ends-front, no-count-front}
 use Rattle.parsing.proofs.read_dependencies.Invariants.{At, slots}

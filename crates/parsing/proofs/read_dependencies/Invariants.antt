@@ -6,7 +6,7 @@ use lib.ListN.{length, drop, replicate}
 use Rattle.query.specs.declared.Dependency.{Dependency}
 use Rattle.query.specs.Rule.{blank_dependency, no_dependency}
 use Rattle.format.specs.Parts.{dependency}
-use Rattle.limits.specs.Schema.{widths_in}
+use Rattle.limits.specs.internal.Schema.{widths_in}
 use Rattle.parsing.proofs.Counted.{Counting}
 use Rattle.parsing.proofs.read_dependencies.Given as goal
 

@@ -1,5 +1,5 @@
 -- `read_dependency` meets its contract. Assumes nothing.
-use Rattle.limits.specs.Schema.{widths_in}
+use Rattle.limits.specs.internal.Schema.{widths_in}
 use Rattle.parsing.proofs.Values.{to_end}
 use Rattle.parsing.proofs.Dependencies.{dependency-short, found-dependency, bad-dependency}
 use Rattle.parsing.proofs.read_dependency.Goals as goal

@@ -3,7 +3,7 @@ use mathlib.Core.Path.{◌≡◌}
 use mathlib.Core.List.{List}
 use Prim.Native.Nat.{ℕ, ◌+◌}
 use lib.ListN.{get_or}
-use Rattle.limits.specs.Schema.{widths_in}
+use Rattle.limits.specs.internal.Schema.{widths_in}
 use Rattle.format.specs.Parts.{join_at}
 use Rattle.parsing.proofs.Values.{to_end}
 use Rattle.parsing.proofs.Joins.{join-two, join-cut, join-many, join-unfit, join-found}

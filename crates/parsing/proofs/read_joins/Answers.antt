@@ -16,7 +16,7 @@ use Rattle.format.specs.Format.{none, got, get_byte}
 use Rattle.format.specs.Parts.{join, unused_join, joins}
 use Rattle.format.specs.File.{complete, read_joins}
 use Rattle.std.proofs.Common.{None, Some}
-use Rattle.limits.specs.Schema.{widths_in}
+use Rattle.limits.specs.internal.Schema.{widths_in}
 use Rattle.parsing.specs.internal.Read.{value_given, reading_of}
 use Rattle.parsing.proofs.Counted.{byte-read, no-count, counting-lends, counting-turns-lent, counting-fails, counting-ends, counting-long}
 use Rattle.parsing.proofs.read_joins.Invariants.{At, slots}

@@ -7,7 +7,7 @@ use Rattle.lists.specs.Tests.{between}
 use Rattle.query.specs.declared.JoinDependency.{JoinDependency}
 use Rattle.query.specs.Rule.{no_join}
 use Rattle.format.specs.Parts.{join, unused_join}
-use Rattle.limits.specs.Schema.{widths_in}
+use Rattle.limits.specs.internal.Schema.{widths_in}
 use Rattle.parsing.proofs.Counted.{Counting}
 use Rattle.parsing.proofs.read_joins.Given as goal
 

@@ -10,7 +10,7 @@ use Rattle.lists.proofs.Over.{pad-is}
 use Rattle.format.specs.Format.{got, get_byte, get_times}
 use Rattle.format.specs.Parts.{entry, entries}
 use Rattle.format.proofs.Parts.{head_fits}
-use Rattle.limits.specs.Schema.{widths_in}
+use Rattle.limits.specs.internal.Schema.{widths_in}
 use Rattle.parsing.specs.internal.Read.{reading_of, read_into}
 use Rattle.parsing.proofs.Counted.{no-low, byte-within}
 use Rattle.parsing.proofs.Times.{times-length}

@@ -7,7 +7,7 @@ use Rattle.query.proofs.Relations.{relations-bounds, width-le}
 use Rattle.lists.specs.Over.{pad}
 use Rattle.lists.proofs.Loops.{stretch-length}
 use Rattle.limits.specs.declared.schema.Schema.{Schema}
-use Rattle.limits.specs.Schema.{widths_in}
+use Rattle.limits.specs.internal.Schema.{widths_in}
 use Rattle.format.specs.Format.{get_times}
 use Rattle.format.specs.Parts.{entry}
 use Rattle.parsing.specs.internal.Read.{reading_of, read_into}

@@ -1,4 +1,4 @@
-use Rattle.limits.specs.Schema.{widths_in}
+use Rattle.limits.specs.internal.Schema.{widths_in}
 use Rattle.parsing.proofs.ReadingRows.{At}
 use Rattle.parsing.proofs.read_rows.Given as goal
 

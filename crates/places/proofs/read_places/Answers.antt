@@ -13,7 +13,7 @@ use Rattle.refusals.specs.Refusals.{Reply, gives, refused, ◌>>=◌}
 use Rattle.format.specs.File.{stretch, stretches, read_place, none_left, read_places}
 use Rattle.lists.proofs.Over.{over-nil, over-set}
 use Rattle.lists.proofs.Over.{pad-over}
-use Rattle.limits.specs.Schema.{widths_in}
+use Rattle.limits.specs.internal.Schema.{widths_in}
 use Rattle.refusals.specs.declared.Refusal.{Refusal}
 use Rattle.refusals.specs.Refusal.{number_of, reply_of}
 use Rattle.places.specs.internal.Read.{all_places}

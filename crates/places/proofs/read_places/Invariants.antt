@@ -7,7 +7,7 @@ use Rattle.lists.specs.Over.{over}
 use Rattle.refusals.specs.Refusals.{Reply, gives, refused}
 use Rattle.format.specs.File.{stretches, read_places}
 use Rattle.format.proofs.Stretches.{table_at}
-use Rattle.limits.specs.Schema.{widths_in}
+use Rattle.limits.specs.internal.Schema.{widths_in}
 use Rattle.places.specs.internal.Read.{all_places}
 use Rattle.places.proofs.read_places.Given as goal
 

@@ -17,7 +17,7 @@ use Rattle.query.specs.declared.Place.{Place}
 use Rattle.query.specs.Rule.{no_place}
 use Rattle.lists.specs.Over.{pad}
 use Rattle.limits.specs.declared.schema.Schema.{Schema}
-use Rattle.limits.specs.Schema.{widths_in}
+use Rattle.limits.specs.internal.Schema.{widths_in}
 use Rattle.format.specs.Format.{Reading, none, got}
 use Rattle.format.specs.Parts.{relations, dependencies, joins}
 use Rattle.format.specs.File.{complete, front, stretch, stretches, read_joins, read_places, record_with, read_parts, read_all}

@@ -3,7 +3,7 @@ use borrow.Author.Rules.{rules}
 use mathlib.Core.Path.{sym, ◌∙◌}
 use mathlib.Core.Bool.{Bool}
 use Prim.Native.Nat.{ℕ}
-use Rattle.limits.specs.Schema.{widths_in}
+use Rattle.limits.specs.internal.Schema.{widths_in}
 use Rattle.query.specs.View.{images_of}
 use Rattle.printing.proofs.Writing.{part-fits, wrote, finished, left_as, moved}
 use Rattle.text.proofs.Turns.{in_row, images-passed, images-skipped, images-end}

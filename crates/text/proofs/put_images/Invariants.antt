@@ -1,7 +1,7 @@
 -- `text::put_images` meets its contract. Invariant: the images from variable v on are left to be written. Assumes nothing.
 use mathlib.Core.Bool.{Bool}
 use Prim.Native.Nat.{ℕ, ◌-◌, ◌≤◌}
-use Rattle.limits.specs.Schema.{widths_in}
+use Rattle.limits.specs.internal.Schema.{widths_in}
 use Rattle.query.specs.View.{images_of}
 use Rattle.printing.proofs.Writing.{Progress}
 use Rattle.lists.specs.Numbers.{numbers_where}

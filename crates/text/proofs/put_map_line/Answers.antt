@@ -1,7 +1,7 @@
 -- `text::put_map_line` meets its contract: its parts one after another. Assumes nothing.
 use mathlib.Core.Path.{refl}
 use Rattle.text.specs.Text.{images_text, map_word, map_line}
-use Rattle.limits.specs.Schema.{widths_in}
+use Rattle.limits.specs.internal.Schema.{widths_in}
 use Rattle.query.specs.View.{images_of, query_of}
 use Rattle.text.specs.internal.Listable.{variables_in_rows}
 use Rattle.printing.proofs.Writing.{started, part-fits, rest-fits, wrote, wrote-rest}

@@ -5,7 +5,7 @@ use Prim.Native.Nat.{◌*◌, ◌<◌}
 use native.Mathlib.Omega.{arith}
 use lib.ListN.{length, take, drop, get_or, length-take}
 use Rattle.lists.proofs.Loops.{mapped-length}
-use Rattle.limits.specs.Schema.{widths_in}
+use Rattle.limits.specs.internal.Schema.{widths_in}
 use Rattle.query.proofs.Good.{good-query}
 use Rattle.query.proofs.Relations.{width-le}
 use Rattle.printing.proofs.Writing.{part-fits, wrote, finished, left_as}

@@ -1,7 +1,7 @@
 -- `text::put_rows` meets its contract. Invariant: the rows from r on are left to be written. Assumes nothing.
 use Prim.Native.Nat.{◌*◌}
 use lib.ListN.{drop}
-use Rattle.limits.specs.Schema.{widths_in}
+use Rattle.limits.specs.internal.Schema.{widths_in}
 use Rattle.query.specs.View.{rows_of}
 use Rattle.printing.proofs.Writing.{Progress}
 use Rattle.text.specs.Text.{rows_text}

@@ -10,7 +10,7 @@ use lib.ListN.{length, take}
 use borrow.Author.Tests.{ne_eqb}
 use Rattle.lists.proofs.Loops.{mapped-length}
 use Rattle.theory.specs.Query as theory
-use Rattle.limits.specs.Schema.{widths_in}
+use Rattle.limits.specs.internal.Schema.{widths_in}
 use Rattle.query.specs.View.{entries_of, query_of, images_of}
 use Rattle.query.specs.Rule.{head_safe}
 use Rattle.query.proofs.Good.{good-query}

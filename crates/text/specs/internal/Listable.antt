@@ -4,7 +4,7 @@ use Rattle.query.specs.declared.Cell.{Cell}
 use Rattle.query.specs.Types.{Query}
 use Rattle.query.specs.View.{entries_of}
 use Rattle.lists.specs.Tests.{every}
-use Rattle.limits.specs.Schema.{widths_in}
+use Rattle.limits.specs.internal.Schema.{widths_in}
 use Rattle.limits.specs.declared.schema.Schema.{Schema}
 use Rattle.query.specs.Rule.{good_cell, good_query, head_safe}
 use Rattle.theory.specs.Query as theory

@@ -4,7 +4,7 @@ use Rattle.std.proofs.Common.{◌≡◌, true, false, sym, ◌∙◌}
 use Rattle.lists.specs.Tests.{every}
 use Rattle.query.specs.Rule.{good_relations, good_dependencies, good_joins, good_place}
 use Rattle.limits.specs.declared.schema.Schema.{Schema}
-use Rattle.limits.specs.Schema.{widths_in}
+use Rattle.limits.specs.internal.Schema.{widths_in}
 use Rattle.record.specs.declared.Record.{Record}
 use Rattle.record.specs.Rule.{good_record}
 use Rattle.record.proofs.Record.is_good.Goals as goal

@@ -2,7 +2,7 @@
 use Rattle.std.proofs.Common.{rules, tests}
 use borrow.Author.Tests.{le-leb, lt-leb}
 use Rattle.query.specs.Rule.{good_dependency, blank_dependency, good_dependencies}
-use Rattle.limits.specs.Schema.{widths_in}
+use Rattle.limits.specs.internal.Schema.{widths_in}
 use Rattle.limits.proofs.schema.Schema.dependencies_good.Goals as goal
 
 pub returns-then-held-le32 : goal.returns-then-held-le32

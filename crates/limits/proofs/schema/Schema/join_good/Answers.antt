@@ -4,7 +4,7 @@ use lib.Dec.{ltb}
 use Rattle.lists.specs.Tests.{every, in_use, is_zero}
 use Rattle.query.specs.Rule.{good_set}
 use Rattle.query.proofs.Relations.{width-le}
-use Rattle.limits.specs.Schema.{widths_in}
+use Rattle.limits.specs.internal.Schema.{widths_in}
 use Rattle.limits.proofs.Sets.{sets-within, covered}
 use Rattle.limits.proofs.schema.Schema.join_good.Goals as goal
 use Rattle.limits.proofs.schema.Schema.join_good.Goals.{then-j-le4, else-j-le4}

@@ -2,7 +2,7 @@
 use Rattle.std.proofs.Common.{rules, tests}
 use borrow.Author.Tests.{le-leb, lt-leb}
 use Rattle.query.specs.Rule.{good_join, blank_join, good_joins}
-use Rattle.limits.specs.Schema.{widths_in}
+use Rattle.limits.specs.internal.Schema.{widths_in}
 use Rattle.limits.proofs.schema.Schema.joins_good.Goals as goal
 
 pub returns-then-joined-le4 : goal.returns-then-joined-le4

@@ -1,7 +1,7 @@
 -- `place_good` meets its contract: a good query keeps the limits. Assumes nothing.
 use Rattle.std.proofs.Common.{sym, ◌∙◌}
 use Rattle.query.proofs.Good.{good-query}
-use Rattle.limits.specs.Schema.{widths_in}
+use Rattle.limits.specs.internal.Schema.{widths_in}
 use Rattle.limits.proofs.schema.Schema.place_good.Goals as goal
 
 pub head_safe-requires : goal.head_safe-requires

@@ -4,7 +4,7 @@ use Rattle.std.proofs.lemmas.Iterator.{YieldsList-from_slice}
 use Rattle.std.proofs.lemmas.Iterator.Search.{all_from_yields_List}
 use Rattle.query.specs.Rule.{good_place}
 use Rattle.chains.proofs.Chains.{all_every}
-use Rattle.limits.specs.Schema.{widths_in}
+use Rattle.limits.specs.internal.Schema.{widths_in}
 use Rattle.limits.proofs.schema.Schema.places_good.Goals as goal
 
 pub returns : goal.returns

@@ -2,7 +2,7 @@
 use Rattle.std.proofs.Common.{◌≡◌, ◌+◌, ◌*◌, ◌-◌, ℕ, take, drop, get_or, ap, ◌∙◌, arith, not}
 use Rattle.query.specs.Rule.{good_row}
 use Rattle.lists.proofs.Loops.{turn-passes, turn-fails, turns-end}
-use Rattle.limits.specs.Schema.{widths_in}
+use Rattle.limits.specs.internal.Schema.{widths_in}
 use Rattle.limits.proofs.Rows.{row_test, rows_start}
 use Rattle.limits.proofs.schema.Schema.rows_good.Goals as goal
 

@@ -1,7 +1,7 @@
 -- Invariant: the answer is that of the rows from the present one on.
 use Rattle.query.specs.Rule.{good_rows}
 use Rattle.lists.proofs.Loops.{Remains}
-use Rattle.limits.specs.Schema.{widths_in}
+use Rattle.limits.specs.internal.Schema.{widths_in}
 use Rattle.limits.proofs.Rows.{row_test}
 use Rattle.limits.proofs.schema.Schema.rows_good.Given as goal
 

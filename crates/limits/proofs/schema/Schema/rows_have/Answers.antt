@@ -4,7 +4,7 @@ use Rattle.theory.specs.Query.{member, variables_of}
 use Rattle.query.specs.View.{entries_of}
 use Rattle.query.proofs.Relations.{width-le}
 use Rattle.lists.proofs.Loops.{search-finds, search-passes, search-ends}
-use Rattle.limits.specs.Schema.{widths_in}
+use Rattle.limits.specs.internal.Schema.{widths_in}
 use Rattle.limits.proofs.Variables.{row_has, rows_start}
 use Rattle.limits.proofs.schema.Schema.rows_have.Goals as goal
 

@@ -2,7 +2,7 @@
 use Rattle.theory.specs.Query.{member, variables_of, row_entries}
 use Rattle.query.specs.View.{rows_of}
 use Rattle.lists.proofs.Loops.{Sought}
-use Rattle.limits.specs.Schema.{widths_in}
+use Rattle.limits.specs.internal.Schema.{widths_in}
 use Rattle.limits.proofs.Variables.{row_has}
 use Rattle.limits.proofs.schema.Schema.rows_have.Given as goal
 

@@ -6,7 +6,7 @@ use native.Mathlib.Omega.{arith}
 use lib.Seq.{get_or-take}
 use lib.ListN.{length, length-take, get_or-eq_default}
 use Rattle.query.proofs.Relations.{relations-bounds}
-use Rattle.limits.specs.Schema.{widths_in}
+use Rattle.limits.specs.internal.Schema.{widths_in}
 use Rattle.limits.proofs.schema.Schema.width_of.Goals as goal
 
 pub bounds-self-relation : goal.bounds-self-relation
