@@ -3,6 +3,7 @@ ghost use Rattle.std.specs.Prelude.{ℕ, ◌<◌, ◌≤◌};
 ghost use Rattle.candidates.specs.internal.Candidates.{Marks, Tested};
 
 // The numbers below n that pass a test.
+// Kept as it is: e is what the test is asked of, and goes through nothing. `liveness::columns_where` is this for 8 columns, in a crate that knows no mappings.
 pub fn marks_where<F: Fn(usize) -> bool>(n: usize, test: F) -> u32
     requires few { n ≤ 24 }
     requires callable { (e : ℕ) → e < n → F.pre test e }

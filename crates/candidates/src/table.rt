@@ -57,6 +57,7 @@ fn together(
 }
 
 // Whether row d of the target is the same as an earlier one.
+// Kept as it is: a chain would number the relations and test both, by the same two conditions.
 pub fn repeats(target: &[u32], offered: [u8; 24], d: usize) -> bool
     requires { (length target.now ≡ 200) × (d < 24) }
     ensures { Tells result (Repeats target.now offered d) }

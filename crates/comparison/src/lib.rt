@@ -67,6 +67,7 @@ fn compare_places(given: Record, p: usize, q: usize) -> Result<Verdict, Refusal>
     ensures compared { Compared given p q result }
     ensures shape { ComparisonShape result }
 {
+    // Kept as it is: widths and join dependencies are sliced here too, and a method for each would be a clause and a proof for two callers.
     let chased = join_chase::chase(
         from_query(stored(given, p)),
         &given.widths[..given.relations as usize],

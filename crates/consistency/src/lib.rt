@@ -39,7 +39,8 @@ fn links_of(domain: &[u32; 13], table: &[u32; 4056], rows: usize, r: usize) -> u
     requires { (rows ≤ 13) × (r < rows) }
 {
     let mut mask: u16 = 0;
-    // Kept as it is: q is a row's number and indexes nothing here; a chain would be a `filter` and a `fold` with the same test and the same bit.
+    // Kept as it is: q is a row's number and indexes nothing here; a chain would be a `filter` and a `fold` with the same test and the same bit, and
+    // `marks_where` of `candidates` stands above this crate.
     for q in 0..rows {
         if q != r && restricts(domain, table, r, q) {
             mask |= 1 << q;
@@ -155,6 +156,7 @@ pub fn settled(links: &[u16; 13], table: &[u32; 4056], rows: usize, state: State
     ensures { Settles rows table.now state result }
 {
     let mut next = state;
+    // Kept as it is: so many turns at most, of which no number is used.
     'turns: for _ in 0..325 {
         let Some(p) = first_row(next.changed & !next.placed, rows) else {
             return next;

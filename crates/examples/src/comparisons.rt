@@ -46,6 +46,7 @@ fn filled(r: Record) -> Record {
 fn rows(size: u8) -> Query {
     let mut q = Query::never(0);
     q.size = size;
+    // Kept as it is: i names a row's cells and its variables.
     for i in 0..size.min(5) {
         let at = 8 * usize::from(i);
         q.cells[at].entry = Entry::Variable(2 * i);

@@ -34,6 +34,7 @@ pub fn has(words: &[u32], schema: &[u8], x: Index, at: usize, columns: u8, value
 }
 
 // The bucket of some values in the columns of a set: their hash, spread by a factor, in proportion to the number of buckets; without a division.
+// Kept as it is: `tables::bucket` has this hash, of sets as `u32`, and spreads it with a division.
 pub fn bucket(columns: u8, values: [u32; 8], width: usize, buckets: usize) -> usize
     requires { (width ≤ 8) × (0 < buckets) × (buckets ≤ 4294967296) }
     ensures { (result ≡ bucket_of buckets columns (take width values)) × (result < buckets) }

@@ -18,7 +18,7 @@ pub struct NextRow {
 }
 
 // The codes of cells.
-// Kept as it is: `mapping::cells::codes` has this body, and says frozen entries of its result; a chase that asks the mapping search for codes is no plainer.
+// Kept as it is: `mapping::cells::codes` has this body, for a clause of frozen entries; one function for both would stand in `query`, with a clause of its own.
 fn codes_of(cells: [Cell; 192]) -> [u32; 192]
     ensures { result ≡ codes_of cells }
 {

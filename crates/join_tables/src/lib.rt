@@ -1,6 +1,8 @@
 // The tables of a join dependency: one of all rows, by the columns of all sets, and one for each set, by the columns that sets before it have; of rows with the
 // same values in the set it has only the first. `heads` has a word for each bucket of each of 5 tables, and `nodes` six for each word of the database: a link
 // to the row before, and one for each table. Without room for them, or where a word's place is beyond 32 bits, there are no tables.
+// Kept as it is: words, schema, index and tables stay parameters, since `heads` and `nodes` are written: a struct like `Tables` of `join_testing`, which
+// only reads, would hold two `&mut` slices.
 #![tactic(auto)]
 
 ghost use Rattle.std.specs.Prelude.{◌≡◌, true, ℕ, suc, ◌+◌, ◌*◌, ◌≤◌, ◌<◌, length, get_or};
@@ -14,7 +16,6 @@ use join_lookup::Index;
 use query::JoinDependency;
 
 // Makes the chains of table t empty: `end` is the end of the words.
-// Kept as it is: `heads` and `nodes` are written here, so that a struct like `Tables` of `join_testing`, which only reads, would hold two `&mut` slices.
 fn clear(heads: &mut [u32], t: usize, buckets: usize, end: u32)
     requires { (t < 5) × (5 * buckets ≤ length heads.old) }
     ensures heads_len_unchanged { length heads.new ≡ length heads.old }

@@ -54,7 +54,7 @@ fn cell_good(c: &Cell) -> bool
 }
 
 // Whether an entry is that of a cell not in use.
-// Kept as it is: it and its likes below name a derived `==`, and their clause is the definition that the rule names.
+// Kept as it is: this and `dependency_blank`, `join_blank`, `cell_names` below name a derived `==`, and the clause is the definition that the rule names.
 fn cell_blank(c: &Cell) -> bool
     ensures { result ≡ blank_cell c.now }
 {

@@ -39,6 +39,7 @@ pub fn carries(
 }
 
 // Whether the images carry row r, of relation `named`, to one of the target's rows, of the relations `offered`.
+// Kept as it is: a chain would number the items and test each by the same condition.
 pub fn lands(
     source: &[Cell; 104],
     target: &[Cell; 104],
@@ -59,6 +60,7 @@ pub fn lands(
 }
 
 // Whether the images carry each of the source's rows, of the relations `named`, to one of the target's.
+// Kept as it is: a chain would number the items and test each by the same condition.
 pub fn all_land(
     source: &[Cell; 104],
     target: &[Cell; 104],
@@ -78,7 +80,7 @@ pub fn all_land(
 }
 
 // Whether variable v stands among the cells.
-// Kept as it is: `cells_have` of `limits` and `stands` of `replacement` are private one-line chains like it, and a call across crates would be no shorter.
+// Kept as it is: `cells_have` of `limits` and `stands` of `replacement` test the same, each for a clause in words of its own.
 pub fn stands(cells: &[Cell; 104], v: u8) -> bool
     ensures { Tells result (Stands cells.now v) }
 {
@@ -86,6 +88,7 @@ pub fn stands(cells: &[Cell; 104], v: u8) -> bool
 }
 
 // Whether each variable that does not stand among the cells has constant 0 for its image.
+// Kept as it is: a chain would number the items and test each by the same condition.
 pub fn rest_blank(cells: &[Cell; 104], images: &[Cell; 96]) -> bool
     ensures { Tells result (RestBlank cells.now images.now) }
 {

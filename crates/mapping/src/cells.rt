@@ -22,6 +22,7 @@ pub fn flat<const CELLS: usize, const LINE: usize>(
 }
 
 // The codes of cells.
+// Kept as it is: a `for`, since the arrays' `map` asks that its iterator fits in memory, which is not known of every LINE.
 pub fn codes<const LINE: usize>(line: &[Cell; LINE]) -> [u32; LINE]
     ensures { (k : ℕ) → k < LINE → get_or result k 0 ≡ freeze 2147483648 (entry_in line.now k) }
 {

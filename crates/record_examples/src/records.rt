@@ -134,6 +134,7 @@ fn adds(rt: &impl Print, r: Record) -> io::Result<()> {
 fn full(rt: &impl Print, r: Record) -> io::Result<Record> {
     let dependencies = dependencies();
     let mut grown = r;
+    // Kept as it is: case numbers what is printed and says which of two is added.
     for case in 0..32usize {
         print!(rt; "add to {case}: ")?;
         grown = answer(rt, grown.add_dependency(dependencies[1 - case % 2]))?;
@@ -189,8 +190,8 @@ fn join_dependencies() -> [JoinDependency; 9] {
     ]
 }
 
-// Kept as it is: `adds` calls another method with cases of another type, and a closure for both would take as many lines.
 // Add the join dependency of each case. Where the record is good and holds fewer than 4, 15 is given for 2 to 8.
+// Kept as it is: `adds` calls another method with cases of another type, and a closure for both would take as many lines.
 fn joins(rt: &impl Print, r: Record) -> io::Result<()> {
     for (case, j) in join_dependencies().iter().enumerate() {
         print!(rt; "join {case}: ")?;
@@ -204,6 +205,7 @@ fn joins(rt: &impl Print, r: Record) -> io::Result<()> {
 fn joined(rt: &impl Print, r: Record) -> io::Result<Record> {
     let dependencies = join_dependencies();
     let mut grown = r;
+    // Kept as it is: case numbers what is printed and says which of two is added.
     for case in 0..4usize {
         print!(rt; "join to {case}: ")?;
         grown = answer(rt, grown.add_join(dependencies[case % 2]))?;

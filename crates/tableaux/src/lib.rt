@@ -29,7 +29,7 @@ fn with_room<const ROWS: usize, const CELLS: usize, const TO_ROWS: usize, const 
 }
 
 // A stored query as a tableau.
-// Kept as it is: both types are of crate `query`, so that `From` cannot be given here, and `to_query` cuts rows.
+// Kept as it is: `From` would have to stand in `query`, with `with_room` and its proof; and `to_query` cuts rows, so it is none.
 pub fn from_query(q: Query) -> Tableau
     ensures { result ≡ tableau_of q }
 {
