@@ -6,7 +6,7 @@ use Prim.Native.Nat.{ℕ, ◌+◌, ◌≤◌, ◌<◌}
 use native.Mathlib.Numerals.{add-one}
 use native.Mathlib.Omega.{arith}
 use lib.ListN.{length, take, drop, get_or, length-append, drop_of_length-le}
-use lib.Seq.{length-take-le, drop-cons}
+use lib.Seq.{drop-cons}
 use borrow.Author.Tests.{eq-eqb, ne_eqb, le-leb}
 use Rattle.lists.specs.Tests.{every, in_use, is_zero}
 use Rattle.lists.proofs.Tests.{and_left, and_right, every-weaken, every-join, used-good, used-blank}
@@ -16,10 +16,6 @@ use Rattle.query.proofs.Good.{good-join}
 use Rattle.query.proofs.Shape.{blank-number}
 use Rattle.limits.proofs.Sets.{past_join}
 use Rattle.assembly.specs.internal.Pieces.{put_join, few_sets, joins_bytes}
-
--- One join dependency: two bytes and the sets in use
-pub join-long : (j : JoinDependency) → length j.sets ≡ 4 → j.count ≤ 4 → length (put_join j) ≡ 2 + j.count
-join-long j four few = omega (arith, length-take-le j.count j.sets (omega arith))
 
 module _ (joined : ℕ) (list : List JoinDependency) where
   -- None is held

@@ -8,30 +8,11 @@ use native.Mathlib.Nat.{le_trans}
 use native.Mathlib.Decide.{ℕ_discrete}
 use native.Mathlib.Omega.{arith}
 use lib.Dec.{eqb}
-use lib.ListN.{get_or, set, length}
+use lib.ListN.{set, length}
 use lib.Seq.{get_or-set_same, get_or-set_other}
 use Rattle.lists.specs.internal.Tells.{Tells}
-use Rattle.candidates.specs.internal.Candidates.{Agrees, Fixes, Repeats, Marks, row_start, image_start, candidates_of, Together, Possible, IsMask}
-use Rattle.candidates.specs.internal.Sharing.{Shares, Keeps}
-
-module _ (source target named offered : List ℕ) (size r d row image : ℕ) (at_row : row ≡ row_start size r) (at-image : image ≡ image_start size r d) where
-  -- A possible candidate has the row's constants
-  pub possible-fixes : Possible source target named offered size r d → Fixes source target row image
-  possible-fixes p = subst₂ (λ (x y : ℕ). Fixes source target x y) (sym at_row) (sym at-image) p.fixes
-
-  -- A candidate of the same relation, the first of its like, with the row's constants is possible exactly when it has one number for each variable
-  pub possible-when : (b : Bool) → (r < size → get_or named r 0 ≡ get_or offered d 0) → (r < size → Repeats target offered d → ⊥) → Fixes source target row image
-      → Tells b (Agrees source target row image row image) → Tells b (Possible source target named offered size r d)
-  possible-when b same first fixes tells = (
-    (λ e.
-        record {
-          relation = same;
-          first = first;
-          fixes = subst₂ (λ (x y : ℕ). Fixes source target x y) at_row at-image fixes;
-          agrees = subst₂ (λ (x y : ℕ). Agrees source target x y x y) at_row at-image (tells.0 e);
-        }),
-    (λ p. tells.1 (subst₂ (λ (x y : ℕ). Agrees source target x y x y) (sym at_row) (sym at-image) p.agrees)),
-  )
+use Rattle.candidates.specs.internal.Candidates.{Agrees, Marks, row_start, image_start, candidates_of, Together, IsMask}
+use Rattle.candidates.specs.internal.Sharing.{Keeps}
 
 -- Two candidates go together exactly when their images agree
 pub together-when : (source target : List ℕ) (size r d row image : ℕ) → row ≡ row_start size r → image ≡ image_start size r d
@@ -80,16 +61,3 @@ module _ (source target : List ℕ) (size count : ℕ) (all : List ℕ) (r d q m
       go (no n) =
           subst⁻¹ (λ (m : ℕ). Marks (candidates_of size count q') m (Together source target size r' d' q'))
           (get_or-set_other all place ((r' * 24 + d') * 13 + q') mask 0 n) before
-
--- Where two rows share no variable, all their candidates go together
-pub apart_marks : (source target : List ℕ) (size count r d q n mask : ℕ) → n ≡ candidates_of size count q
-    → (Shares source (row_start size r) (row_start size q) → ⊥) → Marks n mask (λ e. Unit {0})
-    → Marks (candidates_of size count q) mask (Together source target size r d q)
-apart_marks source target size count r d q n mask is apart marks =
-    subst (λ (k : ℕ). Marks k mask (Together source target size r d q)) is (
-      marks.0,
-      (λ e h. (
-        (λ has i hi large j hj same. absurd (apart (i, hi, large, (j, hj, same)))),
-        (λ p. (marks.1 e h).1 tt),
-      )),
-    )

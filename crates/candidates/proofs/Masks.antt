@@ -76,9 +76,6 @@ marks-tested R P n m tells tested = (
       ((λ has. told.0 (t.2.1 has)), (λ p. t.2.0 (told.1 p)))),
 )
 
-tested-none : (R : ℕ → Bool → Type 0) → Tested R 0 0
-tested-none R = (omega arith, λ e h. absurd (not-suc-le-zero h))
-
 bit-small : (b : Bool) → from_bool b < 2
 bit-small true = omega arith
 bit-small false = omega arith
@@ -117,16 +114,9 @@ tested-down R c e m b pos le here later =
           (w.0, subst (λ (k : ℕ). R k w.0) step w.1, w.2)),
     ))
 
--- The loop's start and its end
-pub tested-start : (R : ℕ → Bool → Type 0) (c : ℕ) → Tested (λ i. R (c + i)) (c - c) 0
-tested-start R c = let none : 0 ≡ c - c = omega arith in subst (λ (n : ℕ). Tested (λ i. R (c + i)) n 0) none (tested-none (λ i. R (c + i)))
-
+-- The loop's end
 pub tested-end : (R : ℕ → Bool → Type 0) (c e m : ℕ) → e ≤ 0 → Tested (λ i. R (e + i)) (c - e) m → Tested R c m
 tested-end R c e m le later =
     let all : c - e ≡ c = omega arith in
     let front : (i : ℕ) → e + i ≡ i = λ i. omega arith in
     subst (λ (n : ℕ). Tested R n m) all (later.0, (λ i h. let w = later.1 i h in (w.0, subst (λ (k : ℕ). R k w.0) (front i) w.1, w.2)))
-
--- A mask of at most 24 bits that can take one more is below 8,388,608
-pub tested-room : (R : ℕ → Bool → Type 0) (c e m : ℕ) → c ≤ 24 → 0 < e → e ≤ c → Tested R (c - e) m → m < 8388608
-tested-room R c e m h pos le tested = let n : c - e ≤ 23 = omega arith in le_trans tested.0 (pow_mono n)

@@ -1,8 +1,7 @@
 -- What `all` and `any` over the numbers of a range come to. Assumes nothing.
-use Rattle.std.proofs.Common.{◌≡◌, Bool, true, false, cond, ◌&&◌, ℕ, zero, suc, ◌+◌, ◌<◌, refl, sym, ap, arith}
-use native.Mathlib.Numerals.{add-one}
+use Rattle.std.proofs.Common.{◌≡◌, Bool, true, ℕ, zero, suc, ◌+◌, ◌<◌, refl, arith}
 use mathlib.Core.Path.{subst}
-use Rattle.std.specs.List.{list_all, list_any, range_with_len}
+use Rattle.std.specs.List.{list_all, range_with_len}
 use Rattle.lists.proofs.Tests.{and_left, and_right, and_both}
 
 -- If all of n numbers from `a` on pass a test, each of them does

@@ -36,9 +36,6 @@ use Rattle.closure.proofs.Masks.{Same, same-columns, same_more, subset-mask, bit
 pub record Passing {A : Type 0} (test : A → Bool) (xs : List A) (whole : Option A) (i : ℕ) : Type 0 where
   pub rest : whole ≡ first_passing test (drop i xs)
 
-pub passing-start : {A : Type 0} (test : A → Bool) (xs : List A) → Passing test xs (first_passing test xs) 0
-passing-start test xs = record { rest = refl }
-
 split : {A : Type 0} (test : A → Bool) (xs : List A) (d : A) (i : ℕ) → i < length xs
     → first_passing test (drop i xs) ≡ cond (test (get_or xs i d)) (some (get_or xs i d)) (first_passing test (drop (suc i) xs))
 unfolding first_passing

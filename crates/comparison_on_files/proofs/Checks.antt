@@ -15,11 +15,11 @@ use Rattle.format.specs.Format.{Reading, none, got}
 use Rattle.mapping.proofs.Checked.{test-tells}
 use Rattle.mapping_words.specs.Images.{images_in}
 use Rattle.mapping_words.specs.internal.Steps.{mapping_read}
-use Rattle.std.specs.Prelude.{Result, Ok, Err, Option as Maybe, Some, None, is_some, unwrap_or}
+use Rattle.std.specs.Prelude.{Result, Ok, Option as Maybe, Some, None, is_some, unwrap_or}
 use lib.ListN.{replicate}
 use Rattle.query.specs.Rule.{no_cell}
 use Rattle.refusals.specs.declared.Refusal.{Refusal}
-use Rattle.refusals.specs.Refusal.{number_of, reply_of}
+use Rattle.refusals.specs.Refusal.{reply_of}
 use Rattle.comparison.specs.Comparison.{pair_refusal, CheckedMapping}
 use Rattle.theory.specs.Query as theory
 use Rattle.theory.specs.Answer.{IsMapping}
@@ -74,11 +74,6 @@ module _ (r : Record) (p q : ℕ) (words : List ℕ) where
     -- What the call below says of the images
     abbrev maps : Bool
     maps = maps_to (query_at r q) (query_at r p) (entries_of images)
-
-    pub check-refused : (why : Refusal) → c ≡ Err why → Says due said (number_of why) said
-    check-refused why k =
-        let n : ℕ = number_of why in
-        says_same (still (pair_refusal r p q) n maps (words_map r p q words) (ap reply_of (sym k) ∙ is)) said n said (refl, refl)
 
     -- What is said where the test of the words says b
     pub check-said : (t b : Bool) → c ≡ Ok t → (maps ≡ t → words_map r p q words ≡ b) → Says due said 0 (bit b)

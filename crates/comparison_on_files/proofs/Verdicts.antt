@@ -2,20 +2,15 @@
 use mathlib.Core.Path.{◌≡◌, refl, sym, subst}
 use mathlib.Core.Bool.{Bool, true, false, cond, ◌&&◌}
 use mathlib.Core.List.{List, []}
-use Prim.Native.Nat.{ℕ, ◌≤◌, ◌<◌}
-use native.Mathlib.Omega.{arith}
+use Prim.Native.Nat.{ℕ}
 use lib.Dec.{eqb, leb, ltb}
 use lib.ListN.{length}
-use borrow.Author.Tests.{le-leb, lt-leb}
 use Rattle.refusals.specs.Refusals.{◌>>=◌, buffer_too_short, too_many_rows, gives, refused, Reply}
 use Rattle.query.specs.declared.Cell.{Cell}
 use Rattle.record.specs.declared.Record.{Record}
-use Rattle.record.specs.View.{schema_of}
 use Rattle.query.specs.View.{as_query}
-use Rattle.lists.specs.Over.{over}
 use Rattle.format.specs.Parts.{query_for}
 use Rattle.format.specs.File.{read_file}
-use Rattle.lists.proofs.Over.{over-nil}
 use Rattle.std.specs.Prelude.{Result, Ok, Err}
 use Rattle.query.specs.Types.{Tableau}
 use Rattle.comparison.specs.declared.Verdict.{Verdict}
@@ -23,8 +18,6 @@ use Rattle.comparison.specs.declared.Verdict.TheVariants as verdict
 use Rattle.refusals.specs.declared.Refusal.{Refusal}
 use Rattle.refusals.specs.Refusal.{number_of, reply_of}
 use Rattle.lent_numbers.specs.Lent.{returned}
-use Rattle.comparison.specs.Comparison.{Compared, ComparisonShape}
-use Rattle.mapping_words.specs.Images.{mapping_words}
 use Rattle.comparison_on_files.specs.Queries.{with_part, images_told, comparison_fits, ComparisonGiven, Comparing, CompareGives}
 use Rattle.comparison_on_files.specs.internal.Steps.{verdict_fits}
 
@@ -39,38 +32,6 @@ module _ (images : List Cell) (said : ℕ) (mapping part : List ℕ) (size : ℕ
 
   pub comparison-none : {x : Reply (ℕ × List ℕ)} {n : ℕ} → x ≡ refused n → ComparisonGiven x images said mapping part size n said mapping part size
   comparison-none {n = n} p = comparison-same p n said mapping part size (refl, refl, refl, refl, refl)
-
-  module _ (code : ℕ) (bytes : List ℕ) where
-    fits-short : length mapping < 192 → verdict_fits (length mapping) (length part) (code, bytes) ≡ refused buffer_too_short
-    fits-short h = rw (lt-leb 192 (length mapping) h)
-
-    fits-long : 192 ≤ length mapping → length part < length bytes → verdict_fits (length mapping) (length part) (code, bytes) ≡ refused buffer_too_short
-    fits-long h l = rw (le-leb 192 (length mapping) h, lt-leb (length bytes) (length part) l)
-
-    fits_both : 192 ≤ length mapping → length bytes ≤ length part → verdict_fits (length mapping) (length part) (code, bytes) ≡ gives (code, bytes)
-    fits_both h l = rw (le-leb 192 (length mapping) h, le-leb (length bytes) (length part) l)
-
-    -- there is no room for a mapping
-    pub verdict-short : length mapping < 192
-        → ComparisonGiven (verdict_fits (length mapping) (length part) (code, bytes)) images said mapping part size buffer_too_short said mapping part size
-    verdict-short h = comparison-none (fits-short h)
-
-    -- nor for the query
-    pub verdict-long : 192 ≤ length mapping → length part < length bytes
-        → ComparisonGiven (verdict_fits (length mapping) (length part) (code, bytes)) images said mapping part size buffer_too_short said mapping part size
-    verdict-long h l = comparison-none (fits-long h l)
-
-    -- there is room for both
-    pub verdict-stored : (mapping' part' : List ℕ) (size' : ℕ) → 192 ≤ length mapping → length bytes ≤ length part
-        → mapping' ≡ over mapping 0 (mapping_words images)
-        → part' ≡ over part 0 bytes → size' ≡ length bytes
-        → ComparisonGiven (verdict_fits (length mapping) (length part) (code, bytes)) images said mapping part size 0 code mapping' part' size'
-    verdict-stored mapping' part' size' h l m p n = comparison-same (fits_both h l) 0 code mapping' part' size' (refl, refl, m, p, n)
-
-  -- a verdict without a query
-  pub contained-stored : (code : ℕ) (mapping' : List ℕ) → 192 ≤ length mapping → mapping' ≡ over mapping 0 (mapping_words images)
-      → ComparisonGiven (verdict_fits (length mapping) (length part) (code, [])) images said mapping part size 0 code mapping' part 0
-  contained-stored code mapping' h m = verdict-stored code [] mapping' part 0 h (omega arith) m (sym (over-nil part 0)) refl
 
 -- ---- a comparison, by its verdict
 
@@ -110,21 +71,6 @@ given-as schema c v e said mapping part size p same number said' mapping' part' 
 -- ---- the exported call
 
 module _ (file : List ℕ) (p q said : ℕ) (mapping part : List ℕ) (size : ℕ) where
-  pub compare-done : (r : Record) → read_file file ≡ gives r → (c : Result Verdict Refusal) → Compared r p q c → ComparisonShape c
-      → (number said' : ℕ) (mapping' part' : List ℕ) (size' : ℕ)
-      → ComparisonGiven (comparison_fits (length mapping) (length part) (schema_of r) c) (images_told c) said mapping part size number said' mapping' part' size'
-      → CompareGives file p q said mapping part size number said' mapping' part' size'
-  compare-done r e c is shape number said' mapping' part' size' w =
-      record {
-        result = comparison_fits (length mapping) (length part) (schema_of r) c;
-        images = images_told c;
-        comparing =
-            subst (λ (x : Reply Record). Comparing x p q (comparison_fits (length mapping) (length part) (schema_of r) c) (images_told c) (length mapping)
-            (length part)) (sym e)
-            (c, is, shape, refl, refl);
-        given = w;
-      }
-
   pub compare-refused : (told : Result (Unit {0}) Refusal) (why : Refusal) → (e : Refusal) × (told ≡ Err e) × (e ≡ why) → read_file file ≡ refused (number_of why)
       → CompareGives file p q said mapping part size (returned (reply_of told)) said mapping part size
   compare-refused told why left e =

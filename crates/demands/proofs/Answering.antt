@@ -1,5 +1,5 @@
 -- Demand 2 from the calls' own contracts. Assumes nothing.
-use mathlib.Core.Path.{◌≡◌, refl, sym, ap, ◌∙◌}
+use mathlib.Core.Path.{◌≡◌, sym, ap, ◌∙◌}
 use mathlib.Core.Logic.{⊎_elim}
 use mathlib.Core.Bool.{true, false}
 use mathlib.Core.List.{List, [], ◌∷◌, ◌++◌}
@@ -11,14 +11,8 @@ use Rattle.record.specs.declared.Record.{Record}
 use Rattle.record.specs.Calls.{outcome_reply, is_filled, query_at}
 use Rattle.refusals.specs.declared.Refusal.{Refusal}
 use Rattle.refusals.specs.Refusal.{reply_of}
-use Rattle.query.specs.Types.{Tableau}
-use Rattle.record.specs.View.{schema_of, dependencies_of, joins_of}
-use Rattle.joins.specs.Join.{LegalForBoth}
-use Rattle.theory.specs.Containment as containment
-use Rattle.comparison.specs.declared.Verdict.{Verdict}
-use Rattle.comparison.specs.declared.Verdict.TheVariants.{Never, Mapped, Apart}
 use Rattle.comparison.specs.Comparison.{comparison_refusal, verdict_on, chased_at, Compared}
-use Rattle.refusals.specs.Refusals.{over_unless, Reply, refused, gives, reply}
+use Rattle.refusals.specs.Refusals.{over_unless, Reply, gives, reply}
 use Rattle.refusals.proofs.Refusals.{refused-gives}
 use Rattle.query.specs.declared.Place.{Place}
 use Rattle.query.specs.Rule.{no_place}
@@ -29,14 +23,14 @@ use Rattle.admission.proofs.Admitted.{none-asked}
 use Rattle.database.proofs.Meaning.{place-ascending, place-answers}
 use Rattle.minimization.specs.Search as search
 use Rattle.record.specs.declared.Outcome.{Outcome}
-use Rattle.std.specs.Prelude.{Result, Ok, Err}
+use Rattle.std.specs.Prelude.{Result, Err}
 use Rattle.format.specs.Bytes.{Bytes}
 use Rattle.format.specs.File.{read_file, read_outcome, file_of, shaped}
 use Rattle.writer.specs.Write.{written, after_writing}
 use Rattle.file.proofs.RoundTrip.{written_back, read_back}
 use Rattle.writer.proofs.Writing.{fits-written, written-fits}
 use Rattle.lists.proofs.Over.{over-length}
-use Rattle.demands.specs.Demand2.{Decides, Evaluates, FileComesBack, RecordComesBack}
+use Rattle.demands.specs.Demand2.{Evaluates, FileComesBack, RecordComesBack}
 use native.Mathlib.Nat.{zero-add}
 
 module _ (r : Record) (p q : ℕ) where
@@ -46,24 +40,6 @@ module _ (r : Record) (p q : ℕ) where
       refused-gives
       (compared.verdict
       ∙ ap (λ (o : Option ℕ). reply o (verdict_on (chased_at r p).rows (search.mappable (query_at r q) (chased_at r p)))) accepted)
-
-  -- The database of the chased query is one on which not all answers of p are answers of q
-  refutes : (query : Tableau) → Compared r p q (Ok (Apart query))
-      → containment.Contained (LegalForBoth (schema_of r) (dependencies_of r) (joins_of r)) (query_at r p) (query_at r q) → ⊥
-  refutes query compared contained = let x = compared.apart query refl in x.no_answer (contained _ x.within _ x.answer)
-
-  pub decides : (c : Result Verdict Refusal) → Compared r p q c → Decides r p q c
-  decides (Ok Never) compared =
-      record { exactly = λ accepted. ((λ says D legal. compared.contained says D legal.obeys), λ contained. tt); shown = λ accepted not. absurd (not tt) }
-  decides (Ok (Mapped images)) compared =
-      record { exactly = λ accepted. ((λ says D legal. compared.contained says D legal.obeys), λ contained. tt); shown = λ accepted not. absurd (not tt) }
-  decides (Ok (Apart query)) compared =
-      record { exactly = λ accepted. ((λ says. absurd says), refutes query compared); shown = λ accepted not. (query, refl, compared.apart query refl) }
-  decides (Err why) compared =
-      record {
-        exactly = λ accepted. ((λ says. absurd says), λ contained. absurd (not-refused why compared accepted));
-        shown = λ accepted not. absurd (not-refused why compared accepted);
-      }
 
 true-false : true ≡ false → ⊥
 true-false e = let z : ◌≡◌ {A = ℕ} 0 1 = cc in omega arith
@@ -109,20 +85,11 @@ module _ (file before after : List ℕ) (o : Outcome) (is : outcome_reply o ≡ 
             ∙ ap (λ (n : ℕ). file ++ drop n before) (sym (zero-add (length file))),
       )
 
-  -- A file that is refused
-  pub not-read : (w : Result ℕ Refusal) (why : Refusal) → o.answer ≡ Err why → FileComesBack file before after w
-  not-read w why says r reads room =
-      absurd (refused-gives (sym (ap reply_of says) ∙ ap (λ (x : Reply (Unit {0}) × Record). x.0) (is ∙ reads)))
-
 module _ (r : Record) (before after : List ℕ) (o : Outcome) where
   -- A record whose file is read back
   pub read_again : shaped r ≡ true → (n : ℕ) → written r before ≡ gives n → after ≡ after_writing r before
       → outcome_reply o ≡ read_outcome (read_file (take n after)) → RecordComesBack r before o
   read_again shape n says left is m writes = is ∙ ap (λ (l : List ℕ). read_outcome (read_file (take n l))) left ∙ read_back r before n shape says
-
-  -- A record that is refused
-  pub not_written : (n : ℕ) → written r before ≡ refused n → RecordComesBack r before o
-  not_written n says m writes = absurd (refused-gives (sym says ∙ writes))
 
 -- What is written lies in the buffer
 pub inside : (r : Record) (before after : List ℕ) (n : ℕ) → written r before ≡ gives n → after ≡ after_writing r before → n ≤ length after

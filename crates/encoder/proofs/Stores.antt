@@ -2,7 +2,7 @@
 use mathlib.Core.Path.{◌≡◌, refl, sym, ap, ◌∙◌}
 use mathlib.Core.List.{List, [], ◌∷◌, ◌++◌, flat_map, append_assoc}
 use Prim.Native.Nat.{ℕ, ◌+◌, ◌-◌, ◌/◌, ◌%◌, ◌≤◌, ◌<◌}
-use native.Mathlib.Numerals.{add-one, add-two}
+use native.Mathlib.Numerals.{add-one}
 use native.Mathlib.Omega.{arith}
 use borrow.Rule.Slice.PartMut.{put_mid, Post-is}
 use lib.ListN.{length, get_or, take, drop, set, length-append, drop_of_length-le}
@@ -17,9 +17,6 @@ use Rattle.lists.proofs.Over.{over-nil, over-set, over-over, over-length}
 
 pub two-stores : (d : List ℕ) (at a b : ℕ) → at + 2 ≤ length d → set (set d at a) (at + 1) b ≡ over d at (a ∷ b ∷ [])
 two-stores d at a b h = rw add-one (sets-eq (a ∷ b ∷ []) d at h)
-
-pub three-stores : (d : List ℕ) (at a b c : ℕ) → at + 3 ≤ length d → set (set (set d at a) (at + 1) b) (at + 2) c ≡ over d at (a ∷ b ∷ c ∷ [])
-three-stores d at a b c h = rw (add-one, add-two) (sets-eq (a ∷ b ∷ c ∷ []) d at h)
 
 -- a byte and then a run
 pub byte-and-run : (d : List ℕ) (at a : ℕ) (run next : List ℕ) → at < length d → next ≡ over (set d at a) (at + 1) run → next ≡ over d at (a ∷ run)

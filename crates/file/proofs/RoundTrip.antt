@@ -7,7 +7,7 @@ use native.Mathlib.Omega.{arith}
 use lib.ListN.{length, take, drop}
 use lib.Seq.{take_at, drop_at}
 use Rattle.refusals.specs.Refusals.{gives}
-use Rattle.std.specs.Prelude.{Ok, Err}
+use Rattle.std.specs.Prelude.{Ok}
 use Rattle.format.specs.File.{read_file, read_outcome, file_of}
 use Rattle.format.proofs.RoundTrip.{file-written-back, record-read-back, file-fits}
 use Rattle.format.proofs.Results.{outcome-done}

@@ -4,11 +4,10 @@ use mathlib.Core.Bool.{true}
 use mathlib.Core.List.{List, [], ◌∷◌, ◌++◌, append-nil}
 use Prim.Native.Nat.{ℕ}
 use Rattle.record.specs.declared.Record.{Record}
-use Rattle.std.specs.Prelude.{Ok, Err}
+use Rattle.std.specs.Prelude.{Ok}
 use Rattle.record.specs.declared.Outcome.{Outcome}
 use Rattle.record.specs.Calls.{outcome_reply}
-use Rattle.refusals.specs.declared.Refusal.{Refusal}
-use Rattle.refusals.specs.Refusal.{number_of, reply_of}
+use Rattle.refusals.specs.Refusal.{reply_of}
 use Rattle.format.specs.Bytes.{Bytes}
 use Rattle.format.specs.Format.{Reading, none, got, Format, Lawful}
 use Rattle.refusals.proofs.Refusals.{refused-gives}
@@ -44,12 +43,3 @@ complete-get n f lf part a hb e =
 pub outcome-done : (x : Reply Record) (o : Outcome) → outcome_reply o ≡ read_outcome x → o.answer ≡ Ok tt → x ≡ gives o.«record»
 outcome-done (gives r) o e a = ap gives (sym (ap (λ (s : Reply (Unit {0}) × Record). s.1) e))
 outcome-done (refused n) o e a = absurd (refused-gives (sym (ap (λ (s : Reply (Unit {0}) × Record). s.0) e) ∙ ap reply_of a))
-
--- and one that is refused that of a file refused so
-pub outcome-refused : (x : Reply Record) (o : Outcome) (why : Refusal) → outcome_reply o ≡ read_outcome x → o.answer ≡ Err why → x ≡ refused (number_of why)
-outcome-refused (gives r) o why e a = absurd (refused-gives (sym (ap reply_of a) ∙ ap (λ (s : Reply (Unit {0}) × Record). s.0) e))
-outcome-refused (refused m) o why e a =
-    let n : ℕ = number_of why in
-    let same : ◌≡◌ {A = Reply (Unit {0})} (refused m) (refused n) = sym (ap (λ (s : Reply (Unit {0}) × Record). s.0) e) ∙ ap reply_of a in
-    let number : m ≡ n = cc in
-    ap refused number

@@ -137,9 +137,6 @@ module _ (schema words : List ℕ) (good : spells_rows schema words ≡ true) (x
           (λ high. let e : p ≡ w.1.row = omega arith in not-here (subst (λ (n : ℕ). Has schema words x columns values n) e has)) (below-or-past p w.1.row),
     )
 
-    pub pass-found : Has schema words x columns values w.1.row → FirstWith schema words x columns values at
-    pass-found has = record { row = w.1.row; place = w.1.place; inside = w.1.inside; here = λ h. has; before = pass-before }
-
     pub pass-end : length words ≤ at → FirstWith schema words x columns values at
     pass-end past =
         record {

@@ -1,5 +1,5 @@
 -- A swap of two sets keeps them. Assumes nothing.
-use mathlib.Core.Path.{◌≡◌, refl, sym, ◌∙◌, ap, subst}
+use mathlib.Core.Path.{◌≡◌, sym, ◌∙◌, ap, subst}
 use mathlib.Core.List.{List}
 use Prim.Native.Nat.{ℕ, ◌≤◌, ◌<◌}
 use native.Mathlib.Decide.{ℕ_discrete}
@@ -10,18 +10,6 @@ use Rattle.std.specs.List as lists
 use Rattle.std.proofs.lemmas.List.Edits.{swap_is}
 use Rattle.query.specs.declared.JoinDependency.{JoinDependency}
 use Rattle.join_order.specs.internal.Arranged.{Arranged}
-
-pub arranged-same : (j : JoinDependency) (first : ℕ) → length j.sets ≡ 4 → Arranged j j first
-arranged-same j first shaped =
-    record {
-      relation = refl;
-      count = refl;
-      shaped = shaped;
-      stay = λ k h. refl;
-      from = λ k low high. (k, low, high, refl);
-      back = λ k low high. (k, low, high, refl);
-      past = λ k h. refl;
-    }
 
 module _ (xs : List ℕ) (i l : ℕ) (in-i : i < length xs) (in-l : l < length xs) where
   abbrev swap : List ℕ

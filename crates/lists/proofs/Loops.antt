@@ -117,16 +117,6 @@ pub and_assoc : (a b c : Bool) → (a && b) && c ≡ a && (b && c)
 and_assoc true b c = refl
 and_assoc false b c = refl
 
--- One test for every element
-pub every-at : {A : Type 0} (test : A → Bool) (i : ℕ) (xs : List A) → every test xs ≡ every_at (λ _. test) i xs
-unfolding every every_at
-every-at test i [] = refl
-every-at test i (x ∷ xs) = ap (λ (t : Bool). test x && t) (every-at test (suc i) xs)
-
--- A loop that makes one test of every element from position i on starts so
-pub every-start : {A : Type 0} (test : A → Bool) (i : ℕ) (xs : List A) → Remains (λ _. test) xs (every test (drop i xs)) i
-every-start test i xs = record { rest = every-at test i (drop i xs) }
-
 -- Good below position n, blank from there on
 abbrev pub used_test : {A : Type 0} → ℕ → (A → Bool) → (A → Bool) → ℕ → A → Bool
 used_test n good blank i x = cond (ltb i n) (good x) (blank x)
@@ -147,11 +137,6 @@ module _ {A : Type 0} (good blank : A → Bool) where
       let h : ltb i m ≡ true = lt-ltb i m (omega arith) in
       let q : m ≡ suc i + n = omega arith in
       rw h (and_assoc (good x) (every good (take n xs)) (every blank (drop n xs)) ∙ ap (λ (t : Bool). good x && t) (used-from n (suc i) m xs q))
-
-  -- Where none is in use, all are blank
-  pub none-used : (xs : List A) → in_use 0 good blank xs ≡ every blank xs
-  unfolding every
-  none-used xs = refl
 
   -- A loop that tests an array of which n elements are in use starts so
   pub used_start : (n : ℕ) (xs : List A) → Remains (used_test n good blank) xs (in_use n good blank xs) 0

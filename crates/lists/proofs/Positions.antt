@@ -62,11 +62,6 @@ stored_more {A} P xs i y d h before at k less = go (dec_lt k i)
         let e : i ≡ k = omega arith in
         subst (λ (j : ℕ). P j (get_or (set xs i y) j d)) e (subst (P i) (sym (get_or-set_same xs i y d h)) at)
 
--- The same where the store is known by an equation
-pub stored-into : {A : Type 0} (P : ℕ → A → Type 0) (xs ys : List A) (i : ℕ) (y d : A) → ys ≡ set xs i y → i < length xs
-    → ((k : ℕ) → k < i → P k (get_or xs k d)) → P i y → (k : ℕ) → k < i + 1 → P k (get_or ys k d)
-stored-into {A} P xs ys i y d e h before at k less = subst (λ (zs : List A). P k (get_or zs k d)) (sym e) (stored_more P xs i y d h before at k less)
-
 -- ---- each and some number below a bound
 
 pub below_each : (P : ℕ → Type 0) → ((i : ℕ) → Dec (P i)) → (n : ℕ) → Dec ((i : ℕ) → i < n → P i)

@@ -3,7 +3,7 @@
 -- The lengths of arrays are the types', so the laws ask them.
 use mathlib.Core.Path.{◌≡◌, sym, ◌∙◌, ap, subst}
 use mathlib.Core.Bool.{Bool, true, false, cond}
-use mathlib.Core.Logic.{◌⊎◌, inl, inr, ⊎_elim}
+use mathlib.Core.Logic.{◌⊎◌, ⊎_elim}
 use mathlib.Core.List.Memᴰ
 use mathlib.Core.List.{List, [], ◌++◌, map}
 use Prim.Native.Nat.{ℕ, ◌+◌, ◌*◌, ◌-◌, ◌/◌, ◌%◌, ◌≤◌, ◌<◌}
@@ -12,8 +12,6 @@ use native.Mathlib.Omega.{arith}
 use borrow.Author.Tests.{lt-ltb, le-ltb}
 use lib.Dec.{eqb, lit<}
 use lib.ListN.{get_or, length, take, drop, length-map, length-drop, get_or-map, get_or-eq_default}
-use lib.ListN.{get_or-append}
-use Rattle.std.proofs.lemmas.List.{get_or-append_right}
 use lib.Seq.{length-take-le, get_or-take, get_or-drop, ext_get_or}
 use Rattle.theory.specs.Query as theory
 use Rattle.theory.specs.Query.{constant, variable, map_row, variables, row_entries, ◌∈◌}
@@ -32,21 +30,8 @@ use Rattle.query.proofs.Good.{GoodUpTo, good-query}
 use Rattle.query.proofs.Stored.{Within, entry-within, blank-good, row_at, row-parts}
 use Rattle.query.proofs.Shape.{SizedFor, head-length, row_count, row_from, row_is, column-is, head-is, blank-cell}
 use Rattle.mapping.specs.internal.Mapped.{Narrow}
-use Rattle.mapping.specs.internal.Lines.{line_at, cell_at, entry_at}
+use Rattle.mapping.specs.internal.Lines.{cell_at, entry_at}
 use Rattle.mapping.proofs.Wide.{Wide}
-
--- Some cells and then those of a head are both in one line
-pub line-append : (n : ℕ) (cells head : List Cell) (k : ℕ) → length cells ≡ n → get_or (cells ++ head) k no_cell ≡ line_at n cells head k
-line-append n cells head k long = go (below-or-past k n)
-  where
-    go : (k < n) ⊎ (n ≤ k) → get_or (cells ++ head) k no_cell ≡ line_at n cells head k
-    go (inl h) =
-        let within : k < length cells = omega arith in
-        get_or-append cells head no_cell k within
-        ∙ sym (ap (λ (b : Bool). cond b (get_or cells k no_cell) (get_or head (k - n) no_cell)) (lt-ltb k n h))
-    go (inr h) =
-        get_or-append_right cells head n k no_cell long h
-        ∙ sym (ap (λ (b : Bool). cond b (get_or cells k no_cell) (get_or head (k - n) no_cell)) (le-ltb k n h))
 
 -- ---- 1. blank elements
 

@@ -18,7 +18,7 @@ use Rattle.format.specs.Parts.{entry_from}
 use Rattle.lists.proofs.Over.{pad-is}
 use Rattle.format.proofs.Formats.{not-got, got_if-true, map_reading-got, then_read-got}
 use Rattle.format.proofs.Lengths.{length-flat_map}
-use Rattle.encoder.proofs.Stores.{Writing, writing-starts, writing-room, writing-turns, writing-ends}
+use Rattle.encoder.proofs.Stores.{Writing, writing-starts, writing-turns, writing-ends}
 use Rattle.format.proofs.Filling.{Filling, filling-starts, filling-turns, filling-fails, filling-ends}
 use Rattle.std.specs.Prelude.{Option as Maybe, None, Some}
 use Rattle.mapping_words.specs.Images.{entry_words, mapping_words, is_image, get_image, images_in}
@@ -44,9 +44,6 @@ mapped-starts before images l h =
     writing-starts cell_words before 0 images (omega arith)
 
 module _ {before : List ℕ} {images : List Cell} {words : List ℕ} {i : ℕ} (w : Writing-on before images words i) (l : length images ≡ 96) where
-  pub mapped-room : i < 96 → 2 * i + 2 ≤ length words
-  mapped-room h = omega (arith, writing-room w no_cell (omega arith), entry-long (get_or images i no_cell).entry)
-
   pub mapped-turns : (next : List ℕ) → i < 96 → next ≡ over words (2 * i) (entry_words (get_or images i no_cell).entry) → Writing-on before images next (i + 1)
   mapped-turns next h e = writing-turns w no_cell next (2 * (i + 1)) (omega arith) e (omega (arith, entry-long (get_or images i no_cell).entry))
 

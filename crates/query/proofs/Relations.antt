@@ -1,14 +1,14 @@
 -- What good widths of relations tell.
 use mathlib.Core.Path.{◌≡◌}
 use mathlib.Core.Logic.{⊎_elim}
-use mathlib.Core.Bool.{true, false}
+use mathlib.Core.Bool.{true}
 use mathlib.Core.List.{List}
 use Prim.Native.Nat.{ℕ, ◌≤◌, ◌<◌}
 use native.Mathlib.Omega.{arith}
 use lib.Dec.{ltb}
-use lib.ListN.{length, take, get_or, length-take, get_or-eq_default}
+use lib.ListN.{length, take, get_or, get_or-eq_default}
 use lib.Seq.{length-take-le}
-use borrow.Author.Tests.{lt-ltb, le-ltb}
+use borrow.Author.Tests.{lt-ltb}
 use Rattle.lists.specs.Tests.{in_use, between, is_zero}
 use Rattle.query.specs.Rule.{good_relations}
 use Rattle.lists.proofs.Tests.{and_left, and_right, below-or-past, between-true, every-get_or, used-good}
@@ -16,9 +16,6 @@ use Rattle.lists.proofs.Tests.{and_left, and_right, below-or-past, between-true,
 -- A relation is known exactly when its number is below the number of relations
 pub known-relation : (n : ℕ) (widths : List ℕ) (r : ℕ) → n ≤ length widths → r < n → ltb r (length (take n widths)) ≡ true
 known-relation n widths r fits h = lt-ltb r (length (take n widths)) (rw (length-take-le n widths fits) h)
-
-pub unknown-relation : (n : ℕ) (widths : List ℕ) (r : ℕ) → n ≤ r → ltb r (length (take n widths)) ≡ false
-unknown-relation n widths r h = le-ltb r (length (take n widths)) (rw (length-take n widths) (omega arith))
 
 module _ (n : ℕ) (widths : List ℕ) (good : good_relations n widths ≡ true) where
   -- There are 1 to 8 relations

@@ -3,23 +3,17 @@ use mathlib.Core.Path.{◌≡◌, subst}
 use mathlib.Core.Bool.{Bool, true, cond, ◌&&◌}
 use mathlib.Core.List.{List}
 use Prim.Native.Nat.{ℕ, ◌≤◌, ◌<◌}
-use native.Mathlib.Omega.{arith}
 use lib.ListN.{length, get_or}
-use lib.Seq.{length-take-le}
 use Rattle.query.specs.declared.Place.{Place}
 use Rattle.record.specs.declared.Record.{Record}
 use Rattle.record.specs.View.{schema_of}
 use Rattle.query.specs.Rule.{good_query, head_safe, blank_query, good_place}
 use Rattle.record.specs.Rule.{good_record}
 use Rattle.lists.proofs.Tests.{and_left, and_right, every-get_or}
-use Rattle.query.proofs.Relations.{relations-bounds, width-bounds, width-le}
+use Rattle.query.proofs.Relations.{width-bounds, width-le}
 use Rattle.record.proofs.Good.{good-record}
 
 module _ (r : Record) (good : good_record r ≡ true) where
-  -- There are 1 to 8 relations
-  pub relation-count : (1 ≤ r.relations) × (r.relations ≤ 8)
-  relation-count = relations-bounds r.relations r.widths (good-record r good).relations
-
   -- No relation has more than 8 columns
   pub narrow : (i : ℕ) → get_or (schema_of r) i 0 ≤ 8
   narrow i = width-le r.relations r.widths (good-record r good).relations i
@@ -27,10 +21,6 @@ module _ (r : Record) (good : good_record r ≡ true) where
   -- A known relation has at least one
   pub nonempty : (i : ℕ) → i < length (schema_of r) → 1 ≤ get_or (schema_of r) i 0
   nonempty i h = (width-bounds r.relations r.widths (good-record r good).relations i h).0
-
-  -- The schema has as many widths as there are relations
-  pub schema-length : length r.widths ≡ 8 → length (schema_of r) ≡ r.relations
-  schema-length e = length-take-le r.relations r.widths (omega (arith, relation-count.1))
 
   -- A place is good
   pub place-good : (p : ℕ) (z : Place) → p < length r.places → good_place (schema_of r) (get_or r.places p z) ≡ true

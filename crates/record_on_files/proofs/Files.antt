@@ -12,16 +12,15 @@ use Rattle.record.specs.declared.Outcome.{Outcome}
 use Rattle.record.specs.Rule.{good_record}
 use Rattle.record.specs.Calls.{outcome_reply}
 use Rattle.refusals.specs.declared.Refusal.{Refusal}
-use Rattle.refusals.specs.Refusal.{number_of, reply_of}
-use Rattle.format.specs.File.{read_file, read_outcome, file_of}
+use Rattle.refusals.specs.Refusal.{number_of}
+use Rattle.format.specs.File.{read_file, file_of}
 use Rattle.format.proofs.RoundTrip.{sound-record, file-written-back}
 use Rattle.format.proofs.Bytes.{bytes-known}
-use Rattle.format.proofs.Results.{outcome-done, outcome-refused}
 use Rattle.writer.specs.Write.{written, after_writing}
 use Rattle.writer.proofs.Writing.{fits-written, long-refused, written-fits, refused-long}
 use Rattle.lent_numbers.specs.Lent.{returned, leaves, fitted, Wrote}
-use Rattle.lent_numbers.proofs.Lent.{still-refused, goes_on}
-use Rattle.record_on_files.specs.Records.{result_of, file_fitted, copied}
+use Rattle.lent_numbers.proofs.Lent.{goes_on}
+use Rattle.record_on_files.specs.Records.{result_of, copied}
 
 -- ---- a record that is written
 

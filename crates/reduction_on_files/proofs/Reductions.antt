@@ -1,16 +1,12 @@
 -- What reducing leaves. Assumes nothing.
-use mathlib.Core.Path.{◌≡◌, refl, sym, ap, subst, ◌∙◌}
+use mathlib.Core.Path.{◌≡◌, refl, sym, subst, ◌∙◌}
 use mathlib.Core.Bool.{Bool, true, false, cond}
 use mathlib.Core.List.{List}
-use mathlib.Core.Option.{Option}
-use mathlib.Core.Option as option
 use Prim.Native.Nat.{ℕ, ◌≤◌, ◌<◌}
 use lib.Dec.{leb}
 use lib.ListN.{length}
 use borrow.Author.Tests.{le-leb, lt-leb}
 use Rattle.refusals.specs.Refusals.{◌>>=◌, buffer_too_short, gives, refused, Reply}
-use Rattle.refusals.proofs.Refusals.{refused-gives}
-use Rattle.query.specs.declared.Cell.{Cell}
 use Rattle.record.specs.declared.Record.{Record}
 use Rattle.std.specs.Prelude.{Result, Ok, Err}
 use Rattle.lent_numbers.specs.Lent.{returned}
@@ -22,10 +18,9 @@ use Rattle.format.specs.File.{read_file, file_of}
 use Rattle.writer.specs.Write.{written, after_writing}
 use Rattle.writer.proofs.Writing.{fits-written, long-refused, written-fits, refused-long}
 use Rattle.reduction.specs.declared.Reduced.{Reduced}
-use Rattle.reduction.specs.Reduced.{reduction_refusal, IsReduced}
+use Rattle.reduction.specs.Reduced.{IsReduced}
 use Rattle.mapping_words.specs.Images.{mapping_words}
 use Rattle.reduction_on_files.specs.Shortening.{reduction_fits, ReductionGiven, ReducedShape, Reducing, ReduceGives}
-use Rattle.reduction_on_files.specs.internal.Steps.{SoundReduction}
 
 -- ---- what a reduction leaves
 
@@ -73,15 +68,6 @@ module _ (o : Reduced) (out : List ℕ) (size count : ℕ) (mapping : List ℕ) 
       reduction-long n out' good w b =
           let (long, short) = refused-long o.«record» out n good w in
           reduction-same (roomy false (lt-leb _ _ long)) n out' size count mapping (short, b ∙ sym (long-refused o.«record» out good long).1, refl, refl, refl)
-
--- A reduction's record is good
-pub reduced-sound : (r : Record) (source target : ℕ) (o : Reduced) → IsReduced r source target o → SoundReduction o
-reduced-sound r source target o is done = go (reduction_refusal r source target) refl
-  where
-    go : (x : Option ℕ) → reduction_refusal r source target ≡ x → good_record o.«record» ≡ true
-    go option.none e = (is.accepted e).good
-    go (option.some n) e =
-        absurd (refused-gives (sym (ap (λ (x : Reply (Unit {0}) × Record × ℕ × List Cell). x.0) (is.refused n e)) ∙ ap reply_of done))
 
 -- ---- the exported call
 

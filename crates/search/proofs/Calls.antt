@@ -8,11 +8,10 @@ use Prim.Native.Nat.{ℕ, ◌+◌, ◌-◌, ◌*◌, ◌^◌, ◌<◌, ◌≤◌
 use native.Mathlib.Omega.{arith}
 use lib.ListN.{get_or, length}
 use lib.Bits.{bit_or}
-use Rattle.consistency.specs.internal.Solution.{Bit, Solution}
+use Rattle.consistency.specs.internal.Solution.{Bit}
 use Rattle.consistency.specs.internal.Consistent.{NoBit, Below, Refuted, Settles, Follows}
 use Rattle.search.specs.internal.Invariant.{missing, IsCandidate, Placeable, Tryable}
 use Rattle.consistency.specs.declared.State.{State}
-use Rattle.consistency.proofs.Masks.{bit-zero}
 use Rattle.search.proofs.Missing.{missing-less, missing-none}
 use Rattle.consistency.proofs.Steps.{below_set, jump, excludes}
 use Rattle.search.proofs.Steps.{left-next, from_next}
@@ -38,10 +37,6 @@ module _ (rows : ℕ) (domain table : List ℕ) (s : State) where
         sound = settles.sound domain pre.sound;
         enough = subst⁻¹ (λ (p : ℕ). 26 * missing p rows < work) settles.placed pre.enough;
       }
-
-  -- and a failure without a placed row says that there is no solution
-  pub no-solution : s.placed ≡ 0 → (m : ℕ) → Refuted rows domain table s.placed m s.chosen → (f : ℕ → ℕ) → Solution rows domain table f → ⊥
-  no-solution none m fails f sol = fails f sol (λ q p b. absurd (bit-zero q (subst (λ (x : ℕ). Bit x q) none p)))
 
   -- ---- from trying a candidate
 

@@ -132,10 +132,6 @@ module _ (schema : List ℕ) (q : Query) (sized : SizedFor 12 q) (good : good_qu
       longer-good schema q (replicate 12 0) (replicate 96 no_cell) rows-12 cells-96 24 12 (omega (arith, fits-12)) (every-replicate is_zero 12 0 refl)
       (every-replicate blank_cell 96 no_cell refl) good
 
-  -- Its head is safe where the stored query's is
-  pub tableau-safe : ((i : ℕ) → get_or schema i 0 ≤ 8) → head_safe schema (as_query (tableau_of q)) ≡ head_safe schema q
-  tableau-safe narrow = safe-same schema (as_query (tableau_of q)) q (tableau-query narrow)
-
 -- Its arrays are for 24 rows
 pub tableau-sized : (q : Query) → SizedFor 12 q → SizedFor 24 (as_query (tableau_of q))
 tableau-sized q sized =

@@ -1,15 +1,9 @@
 -- `closed_columns` meets its contract. Assumes nothing.
-use Rattle.std.proofs.Common.{ℕ, ◌+◌, ◌-◌, length, map, sym, ap, ◌∙◌, rules}
-use native.Mathlib.Nat.{sub-zero}
+use Rattle.std.proofs.Common.{◌+◌, ◌-◌, length, map, sym, ap, ◌∙◌, rules}
 use Rattle.query.specs.View.{dependency_of}
 use Rattle.closure.specs.internal.Closure.{grow_mask}
 use Rattle.closure.proofs.Closure.{grow-step, grow-end}
 use Rattle.closure.proofs.closed_columns.Goals as goal
-
-pub loop-init : goal.loop-init
-loop-init c =
-    let list = map dependency_of c.args.dependencies.now in
-    (search rules, ap (λ (k : ℕ). grow_mask k list c.args.relation c.args.left) (sub-zero (length c.args.dependencies.now)))
 
 pub loop-preserved : goal.loop-preserved
 loop-preserved c =

@@ -7,11 +7,8 @@ use Rattle.query.specs.View.{columns_of, dependency_of}
 use Rattle.query.specs.Rule.{no_dependency}
 use Rattle.closure.specs.internal.Closure.{add_right, next_mask}
 use Rattle.lists.proofs.Tests.{shifted_one}
-use Rattle.closure.proofs.Closure.{passing-start, passing-finds, passing-goes, passing-ends, mapped-long, mapped_at, right-at}
+use Rattle.closure.proofs.Closure.{passing-finds, passing-goes, passing-ends, mapped-long, mapped_at, right-at}
 use Rattle.closure.proofs.next_columns.Goals as goal
-
-pub loop-d-init : goal.loop-d-init
-loop-d-init c = passing-start (adds c.args.relation (columns_of c.args.mask)) (map dependency_of c.args.dependencies.now)
 
 pub adds_column-requires : goal.adds_column-requires
 adds_column-requires c = right-at c.args.dependencies.now c.loop-d.d-index c.requires c.loop-d-test.true

@@ -1,24 +1,9 @@
 -- `comparison::check_mapping` meets its contract: the refusals are those of two places, the rest is what `mapping::check` tells of the queries stored there.
 -- Assumes nothing.
 use mathlib.Core.Path.{sym, ap, ◌∙◌}
-use Prim.Native.Nat.{ℕ}
-use Rattle.comparison.specs.Comparison.{pair_refusal}
-use Rattle.std.proofs.lemmas.Result.{err_from_is_err_and}
-use Rattle.refusals.specs.Refusal.{number_of, reply_of}
-use Rattle.refusals.proofs.Refusals.{reply-refused}
-use Rattle.comparison.proofs.Answers.{places-low, places-read, checks-refused, check-storable, checks-told}
+use Rattle.refusals.specs.Refusal.{reply_of}
+use Rattle.comparison.proofs.Answers.{places-low, places-read, check-storable, checks-told}
 use Rattle.comparison.proofs.check_mapping.Goals as goal
-
-pub returns-in_err-first : goal.returns-in_err-first
-returns-in_err-first c =
-    let given = c.args.given in
-    let p = c.args.p in
-    let q = c.args.q in
-    let n = c.in_err-first.field-0.0 in
-    let left = err_from_is_err_and c.from_residual.result c.from_residual.ensures.1 in
-    rw (left.1, left.2)
-    (checks-refused given p q c.args.images n
-    (reply-refused {A = ℕ × ℕ} (pair_refusal given p q) (p, q) (number_of n) (sym c.filled_pair.ensures ∙ ap reply_of c.in_err-first.was)))
 
 pub stored-requires : goal.stored-requires
 stored-requires c =

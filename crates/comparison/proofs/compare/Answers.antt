@@ -7,7 +7,7 @@ use Rattle.refusals.specs.Refusal.{number_of, reply_of}
 use Rattle.refusals.proofs.Refusals.{reply-refused}
 use Rattle.comparison.proofs.Pairs.{compare-pair}
 use Rattle.comparison.proofs.Verdicts.{compared-refused}
-use Rattle.comparison.proofs.Answers.{places-accepted, places-compared}
+use Rattle.comparison.proofs.Answers.{places-compared}
 use Rattle.comparison.proofs.compare.Goals as goal
 
 pub returns-in_err-first-clause-compared : goal.returns-in_err-first-clause-compared
@@ -21,11 +21,6 @@ returns-in_err-first-clause-compared c =
     (compared-refused given p q n
     (compare-pair given p q (number_of n)
     (reply-refused {A = ℕ × ℕ} (pair_refusal given p q) (p, q) (number_of n) (sym c.filled_pair.ensures ∙ ap reply_of c.in_err-first.was))))
-
-pub compare_places-requires : goal.compare_places-requires
-compare_places-requires c =
-    let a = c.args in
-    places-accepted a.given a.p a.q _ _ (sym c.filled_pair.ensures ∙ ap reply_of c.in_ok-first.was)
 
 pub returns-clause-compared : goal.returns-clause-compared
 returns-clause-compared c =

@@ -2,7 +2,7 @@
 use Rattle.std.proofs.Common.{sym}
 use Rattle.std.proofs.lemmas.Result.{err_from_is_err_and}
 use Rattle.record_on_files.proofs.Files.{read-good}
-use Rattle.comparison_on_files.proofs.Verdicts.{compare-done, compare-refused}
+use Rattle.comparison_on_files.proofs.Verdicts.{compare-refused}
 use Rattle.comparison_on_files.proofs.compare_in_file.Goals as goal
 
 pub schema-requires : goal.schema-requires

@@ -15,12 +15,6 @@ use Rattle.query.specs.View.{as_query, dependency_of}
 use Rattle.first_step.specs.internal.Wide.{first_differing}
 use Rattle.first_step.proofs.find_step.Goals as goal
 
-pub search-init : goal.search-init
-search-init c = tt
-
-pub loop-d-init : goal.loop-d-init
-loop-d-init c = (search rules, refl)
-
 pub loop-i-init : goal.loop-i-init
 loop-i-init c =
     let a = c.args in
@@ -33,16 +27,6 @@ loop-j-init c =
     let d = c.loop-d.d-index in
     let l = c.loop-i in
     (search rules, search rules, l.invariant.1 ∙ row_next (rows_only a.t.size a.t.relations a.t.cells) a.dependencies.now d l.i (search rules))
-
-pub breaks-requires : goal.breaks-requires
-breaks-requires c =
-    let start = c in
-    record {
-      first_fits = search rules;
-      second_fits = search rules;
-      right-fits = start.requires.right-fits c.loop-d.d-index (search rules);
-      first_of = c.if-t-i.true;
-    }
 
 pub loop-j-preserved : goal.loop-j-preserved
 loop-j-preserved c =

@@ -55,14 +55,8 @@ all_links-links-requires c = let small : c.args.q.size ≤ 12 = few c.args.q c.r
 pub distinct-left-requires : goal.distinct-left-requires
 distinct-left-requires c = (to-long (goal.at.distinct-left-requires c).After-codes-to, few c.args.q c.requires)
 
-pub loop-i-init : goal.loop-i-init
-loop-i-init c = (search rules, c.distinct-left.ensures.0, λ target offered state. state)
-
 pub tried-left-requires : goal.tried-left-requires
 tried-left-requires c = (few c.args.q c.requires, search rules, c.loop-i.invariant.1)
-
-pub overflow_step-i : goal.overflow_step-i
-overflow_step-i c = let small : c.args.q.size ≤ 12 = few c.args.q c.requires in search rules
 
 pub loop-i-preserved : goal.loop-i-preserved
 loop-i-preserved c =

@@ -47,13 +47,6 @@ loop-row-init c =
       sym number,
     )
 
-pub returns-then-row-at : goal.returns-then-row-at
-returns-then-row-at c =
-    let l = c.loop-row in
-    let step = stepped l.invariant.0 l.invariant.1 c.in-Some.ensures.steps in
-    sym c.if-row-at.true ∙ ap (λ (p : Position). p.at) step.row ∙ l.invariant.2
-    ∙ ap (λ (p : Position). start_of c.args.schema.now c.args.words.now p.number) (sym step.row)
-
 pub loop-row-preserved : goal.loop-row-preserved
 loop-row-preserved c =
     let a = c.args in

@@ -1,10 +1,7 @@
 -- `arrange` swaps the set that is closest to those before it into each place. Assumes nothing.
 use native.Mathlib.Omega.{arith}
-use Rattle.join_order.proofs.Swapping.{arranged-same, arranged_swap}
+use Rattle.join_order.proofs.Swapping.{arranged_swap}
 use Rattle.join_order.proofs.arrange.Goals as goal
-
-pub loop-i-init : goal.loop-i-init
-loop-i-init c = arranged-same c.args.j c.args.first c.requires.2
 
 pub loop-i-preserved : goal.loop-i-preserved
 loop-i-preserved c =

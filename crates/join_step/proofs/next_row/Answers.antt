@@ -21,9 +21,6 @@ use Rattle.join_step.proofs.next_row.Goals as goal
 four-sets : (joins : List JoinDependency) → every shaped_join joins ≡ true → (k : ℕ) → k < length joins → length (get_or joins k past_join).sets ≡ 4
 four-sets joins shaped k h = eqb-true _ _ (every-get_or shaped_join joins k past_join shaped h)
 
-pub loop-j-init : goal.loop-j-init
-loop-j-init c = (search rules, λ e less. absurd (omega arith))
-
 pub first_missing-requires : goal.first_missing-requires
 first_missing-requires c =
     let p = c.requires in

@@ -55,16 +55,6 @@ onward t c = let a = c.args in
 
 -- ---- after the last set
 
-pub find-end-requires : goal.find-end-requires
-find-end-requires t c = let a = c.args in
-    let g = c.requires.searchable.0 in
-    let i = c.requires.searchable.1 in
-    let e : a.filled ≡ filled_to a.tables.now.j.sets a.tables.now.j.count = c.requires.k_le_count.1 ∙ ap (filled_to a.tables.now.j.sets) c.if-k-tables.true in
-    record {
-      words_value = (g.spelled, i.known, i.room);
-      tabled = subst (λ (n : ℕ). Tabled a.tables.now.schema.now a.tables.now.words.now a.tables.now.x 0 n 0 a.tables.now.heads.now a.tables.now.nodes.now) (sym e) i.whole;
-    }
-
 pub returns-then-k-tables : goal.returns-then-k-tables
 returns-then-k-tables t c = let a = c.args in
     let wide : length a.values ≡ 8 = search rules in

@@ -1,6 +1,6 @@
 -- `first_unmet` is the first join dependency with a choice, and its first. Invariant: the search from join dependency k on finds what the whole search finds.
 -- Assumes nothing.
-use mathlib.Core.Path.{◌≡◌, refl, sym, ap, subst, ◌∙◌}
+use mathlib.Core.Path.{◌≡◌, sym, ap, subst, ◌∙◌}
 use mathlib.Core.List.{List, [], ◌∷◌, map}
 use Prim.Native.Nat.{ℕ, ◌+◌, ◌<◌}
 use lib.ListN.{length, drop, get_or, drop_of_length-le}
@@ -38,9 +38,6 @@ onward c = let s = c in
     l.invariant.0
     ∙ ap (λ (x : List database.JoinDependency). first_unmet_from l.k a.schema.now x (database_of a.schema.now a.words.now))
     (ap (map join_of) (drop-more a.joins.now l.k c.loop-k-test.true))
-
-pub loop-k-init : goal.loop-k-init
-loop-k-init c = (refl, refl, refl)
 
 pub first_choice-found-requires : goal.first_choice-found-requires
 first_choice-found-requires c = let s = c in

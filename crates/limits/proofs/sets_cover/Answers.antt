@@ -3,25 +3,16 @@
 use mathlib.Core.Path.{◌≡◌, ap, ◌∙◌}
 use Prim.Native.Nat.{ℕ, ◌+◌, ◌*◌, ◌^◌, ◌%◌, ◌<◌, ◌≤◌}
 use native.Mathlib.Nat.{lt_of_le_of_lt, lt_of_lt_of_le}
-use native.Mathlib.Omega.{arith}
 use lib.Dec.{lit<, eqb}
 use lib.ListN.{length}
 use lib.Pow.{pow_mono}
 use borrow.Author.Rules.{rules}
 use Rattle.lists.proofs.Tests.{shifted_one}
-use Rattle.limits.proofs.Sets.{union_of, union-lt, covers-all}
+use Rattle.limits.proofs.Sets.{union_of, covers-all}
 use Rattle.limits.proofs.sets_cover.Goals as goal
 
 small : (width m : ℕ) → width ≤ 8 → m < 2 ^ width → m < 256
 small width m narrow h = lt_of_lt_of_le h (pow_mono narrow)
-
-pub overflow_add-result : goal.overflow_add-result
-overflow_add-result c =
-    let long : length c.args.sets ≡ 4 = search rules in
-    let below : union_of c.args.sets < 256 =
-    small c.args.width (union_of c.args.sets) c.requires.0 (union-lt c.args.width c.requires.0 c.args.sets long c.requires.1)
-    in
-    omega arith
 
 pub returns : goal.returns
 returns c =

@@ -1,20 +1,10 @@
 -- `put_image` is two stores. Assumes nothing.
 use mathlib.Core.Path.{sym, ap, ◌∙◌}
-use native.Mathlib.Omega.{arith}
-use lib.ListN.{length-set}
 use Rattle.query.specs.declared.Entry.{Entry}
 use Rattle.lists.specs.Over.{over}
 use Rattle.encoder.proofs.Stores.{two-stores}
 use Rattle.mapping_words.specs.Images.{entry_words}
 use Rattle.mapping_words.proofs.put_image.Goals as goal
-
-pub bounds-words-at-in-Constant : goal.bounds-words-at-in-Constant
-bounds-words-at-in-Constant c =
-    simp length-set (omega arith)
-
-pub bounds-words-at-in-Variable-2 : goal.bounds-words-at-in-Variable-2
-bounds-words-at-in-Variable-2 c =
-    simp length-set (omega arith)
 
 pub returns-in-Constant : goal.returns-in-Constant
 returns-in-Constant c =

@@ -1,7 +1,7 @@
 -- `put_mapping` writes the words of each image after those of the one before. Assumes nothing.
 use mathlib.Core.Path.{◌≡◌}
 use lib.ListN.{length}
-use Rattle.mapping_words.proofs.Mappings.{mapped-starts, mapped-room, mapped-turns, mapped-ends}
+use Rattle.mapping_words.proofs.Mappings.{mapped-starts, mapped-turns, mapped-ends}
 use borrow.Author.Rules.{rules}
 use Rattle.mapping_words.proofs.put_mapping.Goals as goal
 
@@ -10,19 +10,10 @@ loop-i-init c =
     let l : length c.args.images ≡ 96 = search rules in
     mapped-starts c.args.words.now c.args.images l c.requires
 
-pub put_image-requires : goal.put_image-requires
-put_image-requires c =
-    let l : length c.args.images ≡ 96 = search rules in
-    mapped-room c.loop-i.invariant l c.loop-i-test.true
-
 pub loop-i-preserved : goal.loop-i-preserved
 loop-i-preserved c =
     let l : length c.args.images ≡ 96 = search rules in
     mapped-turns c.loop-i.invariant l _ c.loop-i-test.true c.put_image.ensures
-
-pub shape_of-words : goal.shape_of-words
-shape_of-words c =
-    c.loop-i.invariant.long
 
 pub returns : goal.returns
 returns c =

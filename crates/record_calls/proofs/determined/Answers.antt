@@ -6,9 +6,6 @@ use Prim.Native.Nat.{ℕ}
 use native.Mathlib.Omega.{arith}
 use lib.Seq.{length-take-le}
 use mathlib.Core.Bool.{true}
-use native.Mathlib.Nat.{lt_of_le_of_lt}
-use lib.Count.{ones-le}
-use lib.Dec.{lit<}
 use lib.ListN.{length, take}
 use Rattle.query.specs.declared.Dependency.{Dependency}
 use Rattle.query.specs.View.{dependency_of}
@@ -32,9 +29,6 @@ returns-then-not-is_good c =
     determined-broken c.args.given c.args.relation
     c.args.left (sym c.is_good.ensures ∙ c.if-not-is_good.true)
 
-pub schema-requires : goal.schema-requires
-schema-requires c = good (goal.at.schema-requires c).Else-not-is_good
-
 pub returns-then-not-set_good : goal.returns-then-not-set_good
 returns-then-not-set_good c =
     determined-unfit c.args.given c.args.relation
@@ -46,9 +40,6 @@ dependencies_held-requires c = (good-record c.args.given (good (goal.at.dependen
 pub closed_columns-mask-requires : goal.closed_columns-mask-requires
 closed_columns-mask-requires c =
     rw c.dependencies_held.ensures (rights-narrow c.args.given (good (goal.at.closed_columns-mask-requires c).Else-not-is_good))
-
-pub overflow_cast-count : goal.overflow_cast-count
-overflow_cast-count c = record { fits = lt_of_le_of_lt (ones-le 8 _ (search rules)) (lit< tt) }
 
 pub returns : goal.returns
 returns c =

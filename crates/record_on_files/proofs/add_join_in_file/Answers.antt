@@ -12,9 +12,6 @@ use Rattle.record_on_files.proofs.add_join_in_file.Goals as goal
 pub add_sets-requires : goal.add_sets-requires
 add_sets-requires c = read-good c.args.file.now (λ i. (c.type_inv.file i).fits) c.in_ok-given.given c.in_ok-given.ensures
 
-pub store_outcome-requires : goal.store_outcome-requires
-store_outcome-requires c = c.add_sets.ensures.1
-
 pub returns-in_err-given : goal.returns-in_err-given
 returns-in_err-given c =
     wrote_err c.from_residual.result c.in_err-given.field-0.0 (err_from_is_err_and c.from_residual.result c.from_residual.ensures.1)

@@ -7,9 +7,6 @@ use Rattle.record_on_files.proofs.Files.{result-done, result-refused}
 use Rattle.lent_numbers.proofs.Lent.{goes_on, still-refused, wrote-same, wrote_err}
 use Rattle.record_on_files.proofs.store_outcome.Goals as goal
 
-pub store-requires : goal.store-requires
-store-requires c = c.requires c.in_ok-outcome.was
-
 pub returns-in_err-outcome : goal.returns-in_err-outcome
 returns-in_err-outcome c =
     let why = c.in_err-outcome.field-0.0 in

@@ -10,16 +10,10 @@ use Rattle.reduction.proofs.store_reduced.Goals.{Start}
 eight : (c : Start) → length c.args.given.places ≡ 8
 eight c = let long : length c.args.given.places ≡ 8 = search (mapped-length, rules) in long
 
-pub stored-long-requires : goal.stored-long-requires
-stored-long-requires c = c.requires.source-low
-
 pub shorten-shortened-requires : goal.shorten-shortened-requires
 shorten-shortened-requires c =
     rw c.dependencies_held.ensures
     (able-shortenable c.args.given c.args.source c.args.target c.requires (eight (goal.at.shorten-shortened-requires c).Start) _ c.stored-long.ensures)
-
-pub with_place-requires : goal.with_place-requires
-with_place-requires c = c.requires.target-low
 
 pub returns : goal.returns
 returns c =

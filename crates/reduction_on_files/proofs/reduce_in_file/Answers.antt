@@ -1,13 +1,9 @@
 -- `reduce_in_file` gives what reducing promises, once the file is read. Assumes nothing.
 use Rattle.std.proofs.Common.{sym}
 use Rattle.std.proofs.lemmas.Result.{err_from_is_err_and}
-use Rattle.reduction_on_files.proofs.Reductions.{reduced-sound, reduce-done, reduce-refused}
+use Rattle.reduction_on_files.proofs.Reductions.{reduce-done, reduce-refused}
 use Rattle.reduction_on_files.proofs.Shapes.{reduced-shaped}
 use Rattle.reduction_on_files.proofs.reduce_in_file.Goals as goal
-
-pub store_reduction-requires : goal.store_reduction-requires
-store_reduction-requires c =
-    reduced-sound c.in_ok-given.given c.args.source c.args.target c.reduce-reduced.result c.reduce-reduced.ensures
 
 pub returns : goal.returns
 returns c =

@@ -19,9 +19,6 @@ returns-then-mapping-lt192 c =
     reduction-none a.reduced a.out.now a.size.now a.count.now a.mapping.now
     (reduction-short a.reduced a.out.now a.size.now a.count.now a.mapping.now c.in_ok-reduced.was c.if-mapping-lt192.true)
 
-pub write_good-requires : goal.write_good-requires
-write_good-requires c = c.requires c.in_ok-reduced.was
-
 pub returns : goal.returns
 returns c =
     let a = c.args in

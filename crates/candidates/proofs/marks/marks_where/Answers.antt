@@ -1,10 +1,7 @@
 -- `marks_where` asks the numbers from the last to the first.
 -- Assumes nothing.
-use Rattle.candidates.proofs.Masks.{tested-down, tested-start, tested-end}
+use Rattle.candidates.proofs.Masks.{tested-down, tested-end}
 use Rattle.candidates.proofs.marks.marks_where.Goals as goal
-
-pub loop-e-init : goal.loop-e-init
-loop-e-init g c = tested-start (λ i b. goal.F-post g c.args.test i b) c.args.n
 
 pub loop-e-preserved : goal.loop-e-preserved
 loop-e-preserved g c =

@@ -1,19 +1,10 @@
 -- `put_row` puts the masks of every row for each candidate of one in their places. The invariant: those of the rows passed are there, and what was right is.
 -- Assumes nothing.
 use borrow.Author.Rules.{rules}
-use borrow.Author.Count.{below_none, below_more}
+use borrow.Author.Count.{below_more}
 use native.Mathlib.Omega.{arith}
 use Rattle.candidates.specs.internal.Sharing.{IsPair}
 use Rattle.candidates.proofs.table.put_row.Goals as goal
-
-pub loop-q-init : goal.loop-q-init
-loop-q-init c = (search rules, search rules, (λ r d q hr hq hd is. is), below_none _)
-
-pub put_pair-requires : goal.put_pair-requires
-put_pair-requires c =
-    let loop = c.loop-q in
-    let start = c in
-    (start.requires.0, start.requires.1, omega arith, loop.invariant.1)
 
 pub loop-q-preserved : goal.loop-q-preserved
 loop-q-preserved c =
@@ -28,6 +19,3 @@ loop-q-preserved c =
       below_more (IsPair args.source.now args.target.now args.size args.count put.new.table args.r) loop.q
           (λ k h d hd. kept args.r d k start.requires.1 (omega arith) hd (loop.invariant.3 k h d hd)) put.ensures.1,
     )
-
-pub returns : goal.returns
-returns c = (c.loop-q.invariant.2, λ q h. c.loop-q.invariant.3 q (omega arith))

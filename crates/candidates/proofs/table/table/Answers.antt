@@ -1,17 +1,11 @@
 -- `table` has each mask in its place. The invariant: those for the candidates of the rows passed are there.
 -- Assumes nothing.
 use borrow.Author.Rules.{rules}
-use borrow.Author.Count.{below_none, below_more}
+use borrow.Author.Count.{below_more}
 use Prim.Native.Nat.{ℕ, ◌≤◌}
 use native.Mathlib.Omega.{arith}
 use Rattle.candidates.specs.internal.Sharing.{IsPair}
 use Rattle.candidates.proofs.table.table.Goals as goal
-
-pub loop-r-init : goal.loop-r-init
-loop-r-init c = (search rules, search rules, below_none _)
-
-pub put_row-requires : goal.put_row-requires
-put_row-requires c = (c.requires, omega arith, c.loop-r.invariant.1)
 
 pub loop-r-preserved : goal.loop-r-preserved
 loop-r-preserved c =
@@ -24,6 +18,3 @@ loop-r-preserved c =
       below_more (λ k. (q : ℕ) → q ≤ args.size → IsPair args.source.now args.target.now args.size args.count put.new.table k q) loop.r
           (λ k h q hq d hd. put.ensures.0 k d q (omega arith) hq hd (loop.invariant.2 k h q hq d hd)) put.ensures.1,
     )
-
-pub returns : goal.returns
-returns c r d q hr hq hd = c.loop-r.invariant.2 r (omega arith) q hq d hd

@@ -1,10 +1,9 @@
 -- `demands::demand2::read_back` meets its contract. Assumes nothing.
 use mathlib.Core.Path.{sym, ap, ◌∙◌}
 use lib.Seq.{length-take-le}
-use Rattle.std.specs.Prelude.{Err}
 use Rattle.refusals.specs.Refusal.{reply_of}
 use Rattle.file.proofs.Shapes.{record-shaped}
-use Rattle.demands.proofs.Answering.{read_again, not_written, inside}
+use Rattle.demands.proofs.Answering.{read_again, inside}
 use Rattle.demands.proofs.demand2.read_back.Goals as goal
 
 pub slice_bounds-read-end : goal.slice_bounds-read-end
@@ -27,10 +26,3 @@ returns-in-Ok c =
     let w = c.write.ensures in
     read_again s.args.given s.args.buffer.now _ c.read.result (record-shaped s.args.given _ s.well_formed.0) _
     (sym w.0 ∙ ap reply_of c.in-Ok.is) w.1 c.read.ensures
-
-pub returns-in-Err : goal.returns-in-Err
-returns-in-Err c =
-    let s = c in
-    not_written s.args.given s.args.buffer.now s.args.buffer.now
-    (record { answer = Err c.in-Err.refusal; «record» = s.args.given }) _
-    (sym c.write.ensures.0 ∙ ap reply_of c.in-Err.is)

@@ -1,6 +1,6 @@
 -- `demands::demand2::write_back` meets its contract. Assumes nothing.
 use Rattle.format.proofs.Bytes.{bytes-known}
-use Rattle.demands.proofs.Answering.{written-again, not-read}
+use Rattle.demands.proofs.Answering.{written-again}
 use Rattle.demands.proofs.demand2.write_back.Goals as goal
 
 pub returns : goal.returns
@@ -10,9 +10,3 @@ returns c =
     written-again s.args.file.now s.args.buffer.now _ read.result read.ensures c.write.result
     (bytes-known s.args.file.now (λ i. (c.type_inv.file i).fits))
     c.write.ensures.0 c.write.ensures.1
-
-pub returns-in_err-read : goal.returns-in_err-read
-returns-in_err-read c =
-    let s = c in
-    let read = c.read-read in
-    not-read s.args.file.now s.args.buffer.now _ read.result read.ensures _ _ c.in_err-read.was

@@ -1,14 +1,12 @@
 -- `assign` gives the variables of all rows their images. The invariant: those of the rows passed have them.
 -- Assumes nothing.
-use borrow.Author.Rules.{rules}
-use mathlib.Core.Path.{◌≡◌, ap, subst, ◌∙◌}
-use Prim.Native.Nat.{ℕ, ◌+◌, ◌≤◌, ◌<◌}
+use mathlib.Core.Path.{◌≡◌, ap, ◌∙◌}
+use Prim.Native.Nat.{◌+◌, ◌<◌}
 use native.Mathlib.Omega.{arith}
-use lib.ListN.{length, length-take}
+use lib.ListN.{length-take}
 use lib.Seq.{get_or-take}
 use Rattle.candidates.specs.internal.Candidates.{image_start}
 use Rattle.mapping.specs.internal.Lines.{choice_of}
-use Rattle.mapping.specs.internal.Lines.{Assigned}
 use Rattle.mapping.proofs.Images.{rows_start, rows_more}
 use Rattle.mapping.proofs.assign.assign.Goals as goal
 use Rattle.mapping.proofs.assign.assign.Goals.{After-from}
@@ -23,15 +21,6 @@ inside c = omega (arith, length-take (c.args.size + 1) c.args.chosen, c.loop-r-t
 chosen-is : (c : After-from) → c.from.result ≡ choice_of c.args.chosen c.loop-r.r
 chosen-is c = c.from.ensures ∙ get_or-take (c.args.size + 1) c.args.chosen c.loop-r.r 0 (inside c)
 
-pub image_at-image-requires : goal.image_at-image-requires
-image_at-image-requires c =
-    let at = (goal.at.image_at-image-requires c).After-from in
-    let low : c.loop-r.r < c.args.size + 1 = inside at in
-    rw (chosen-is at) (c.requires.1 c.loop-r.r (omega arith))
-
-pub assign_row-next-requires : goal.assign_row-next-requires
-assign_row-next-requires c = (c.row_at.ensures.1, c.image_at-image.ensures.1, c.requires.2)
-
 pub loop-r-preserved : goal.loop-r-preserved
 loop-r-preserved c =
     let a = c.args in
@@ -39,11 +28,3 @@ loop-r-preserved c =
     rows_more a.source.now a.target.now a.size (choice_of a.chosen) c.loop-r.r c.row_at.result c.image_at-image.result c.loop-r.images
     c.assign_row-next.result c.row_at.ensures.0 (c.image_at-image.ensures.0 ∙ ap (image_start a.size c.loop-r.r) (chosen-is at)) c.loop-r.invariant
     c.assign_row-next.ensures
-
-pub returns : goal.returns
-returns c =
-    let a = c.args in
-    let few : a.size ≤ 12 = c.requires.0 in
-    let long : length a.chosen ≡ 13 = search rules in
-    let done : c.loop-r.r ≡ a.size + 1 = omega (arith, length-take (a.size + 1) a.chosen, c.loop-r-test.false, c.loop-r.auto.r-end) in
-    subst (λ (n : ℕ). Assigned a.source.now a.target.now a.size (choice_of a.chosen) n c.loop-r.images) done c.loop-r.invariant

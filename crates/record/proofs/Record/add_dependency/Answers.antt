@@ -17,9 +17,6 @@ returns-then-not-is_good c =
     c.refused.ensures ∙ add-broken c.args.self c.args.d
     (sym c.is_good.ensures ∙ c.if-not-is_good.true)
 
-pub schema-requires : goal.schema-requires
-schema-requires c = sym c.is_good.ensures ∙ c.if-not-is_good.false
-
 pub returns-then-not-dependency_good : goal.returns-then-not-dependency_good
 returns-then-not-dependency_good c =
     c.refused-then-not-dependency_good.ensures ∙ add-unfit c.args.self

@@ -17,9 +17,6 @@ returns-then-not-is_good c =
     c.refused.ensures ∙ join-broken c.args.self c.args.j
     (sym c.is_good.ensures ∙ c.if-not-is_good.true)
 
-pub schema-requires : goal.schema-requires
-schema-requires c = sym c.is_good.ensures ∙ c.if-not-is_good.false
-
 pub returns-then-not-join_good : goal.returns-then-not-join_good
 returns-then-not-join_good c =
     c.refused-then-not-join_good.ensures ∙ join-unfit c.args.self

@@ -52,9 +52,6 @@ returns-in_default c =
     c.args.q (good (goal.at.returns-in_default c).Else-not-is_good) (number_of c.unwrap_err.result)
     (sym c.place_at-found.ensures ∙ ap reply_of c.unwrap_err.ensures)
 
-pub schema-schema-requires : goal.schema-schema-requires
-schema-schema-requires c = good (goal.at.schema-schema-requires c).Else-not-is_good
-
 pub returns-then-not-query_good : goal.returns-then-not-query_good
 returns-then-not-query_good c =
     c.refused-then-not-query_good.ensures
