@@ -35,7 +35,7 @@ fn find_step(dependencies: &[Dependency], rows: &[Row]) -> Option<(Entry, Entry)
 }
 
 /// Of two different entries: the one that stays and the variable that goes. None when they clash.
-fn survivor(x: Entry, y: Entry, head: &[Entry]) -> Option<(Entry, Entry)> {
+pub(crate) fn survivor(x: Entry, y: Entry, head: &[Entry]) -> Option<(Entry, Entry)> {
     match (x, y) {
         (Constant(_), Constant(_)) => None,
         (Constant(_), Variable(_)) => Some((x, y)),

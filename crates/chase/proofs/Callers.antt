@@ -16,6 +16,7 @@ use Rattle.first_step.specs.internal.Wide.{Chasable}
 use Rattle.lists.proofs.Tests.{every-get_or, every-weaken, used-good}
 use Rattle.lists.proofs.Positions.{every-get_or-else}
 use Rattle.query.proofs.Good.{good-query}
+use Rattle.query.proofs.Stored.{all-cells}
 use Rattle.lists.proofs.Tests.{and_left, and_right}
 
 -- The widths that good relations give are 1 to 8
@@ -59,13 +60,14 @@ held-good schema held dependencies good =
 
 -- A good tableau can be chased with good dependencies
 pub chasable : (schema : List ℕ) (dependencies : List Dependency) (t : Tableau) → every (between 1 8) schema ≡ true
-    → every (good_dependency schema) dependencies ≡ true → good_tableau schema t ≡ true → Chasable t dependencies
-chasable schema dependencies t widths good good-t =
+    → every (good_dependency schema) dependencies ≡ true → good_tableau schema t ≡ true → length t.relations ≡ 24 → Chasable t dependencies
+chasable schema dependencies t widths good good-t long =
     let p = good-query 24 schema (as_query t) good-t in
     let rights = every-weaken (good_dependency schema) (λ d. ltb d.right 8) (good_right schema widths) dependencies good in
     record {
       arity-fits = p.arity;
       size_fits = p.size;
       right-fits = λ d h. ltb-true (get_or dependencies d no_dependency).right 8 (every-get_or (λ x. ltb x.right 8) dependencies d no_dependency rights h);
+      cells-good = all-cells 24 schema (as_query t) good-t (omega (arith, long, p.size));
       rest-blank = p.cells;
     }

@@ -47,11 +47,13 @@ pub unused-kept : (v : ℕ) (e : Entry) (n : ℕ) (cells : List Cell) → every 
 unused-kept v e n cells p = rw drop-map (every_map blank_cell blank_cell (substitute_cell v e) (λ c. substitute-blank v e c.entry) (drop n cells) p)
 
 module _ (v : ℕ) (e : Entry) (good : good_entry e ≡ true) where
+  pub cells-kept : (cells : List Cell) → every good_cell cells ≡ true → every good_cell (map (substitute_cell v e) cells) ≡ true
+  cells-kept = every_map good_cell good_cell (substitute_cell v e) (λ c. substitute-good v e good c.entry)
+
   used-kept : (n : ℕ) (cells : List Cell) → in_use n good_cell blank_cell cells ≡ true → in_use n good_cell blank_cell (map (substitute_cell v e) cells) ≡ true
   used-kept n cells p =
       used-whole n good_cell blank_cell (map (substitute_cell v e) cells)
-      (rw take-map (every_map good_cell good_cell (substitute_cell v e) (λ c. substitute-good v e good c.entry) (take n cells)
-      (used-good n good_cell blank_cell cells p)))
+      (rw take-map (cells-kept (take n cells) (used-good n good_cell blank_cell cells p)))
       (unused-kept v e n cells (used-blank n good_cell blank_cell cells p))
 
   rows-kept : (schema relations : List ℕ) (cells : List Cell) → good_rows schema relations cells ≡ true

@@ -29,9 +29,8 @@ use Rattle.replacement.specs.internal.Replacement.{resolution_of, substitute_ent
 use Rattle.replacement.specs.internal.Replacement.{substitute_cell, map_cells}
 use Rattle.chase.specs.internal.Outcome.{IsChased}
 use Rattle.lists.proofs.Maps.{drop-map, take-replicate, map-replicate}
-use Rattle.query.proofs.Stored.{all-cells}
 use Rattle.chase.proofs.View.{StandsFor, entries_of-take}
-use Rattle.chase.proofs.Good.{unused-kept, good-kept, never-good}
+use Rattle.chase.proofs.Good.{unused-kept, cells-kept, good-kept, never-good}
 use Rattle.chase.proofs.Callers.{width-le}
 use Rattle.chase.proofs.Narrow.{step-differing, chases-narrow, wide-padded, narrow_wide}
 use Rattle.theory.specs.Query.{Entry, constant, variable, never, map_row, map_query, row_entries, variables_of, member, distinct, variable_count}
@@ -122,17 +121,20 @@ pub record Under (q : stored.Query) (ds : List Dependency) (query : stored.Query
   pub same-relations : query.relations ≡ q.relations
   pub head-length : length query.head ≡ length q.head
   pub keeps-good : (schema : List ℕ) → good_up_to 24 schema q ≡ true → good_up_to 24 schema query ≡ true
+  pub cells-good : every good_cell query.cells ≡ true
   pub rest-blank : every blank_cell (drop (8 * query.size) query.cells) ≡ true
   pub chase-is : chase ds (wide_query q) ≡ later count (chase ds (wide_query query))
 
-pub under-start : (q : stored.Query) (ds : List Dependency) → every blank_cell (drop (8 * q.size) q.cells) ≡ true → Under q ds q 0
-under-start q ds blank =
+pub under-start : (q : stored.Query) (ds : List Dependency) → every good_cell q.cells ≡ true → every blank_cell (drop (8 * q.size) q.cells) ≡ true
+    → Under q ds q 0
+under-start q ds good blank =
     record {
       same-arity = refl;
       same_size = refl;
       same-relations = refl;
       head-length = refl;
       keeps-good = λ schema good. good;
+      cells-good = good;
       rest-blank = blank;
       chase-is = ap (λ n. record { query = (chase ds (wide_query q)).query; count = n }) (sym (zero-add (chase ds (wide_query q)).count));
     }
@@ -180,9 +182,11 @@ module _
     pub replaced-count : (chase ds (wide_query query)).count ≡ suc (chase ds (wide_query (map_cells (substitute_cell v e) query))).count
     replaced-count = ap (λ c. c.count) one-replaced
 
-    pub under-replace : (count : ℕ) → Under q ds query count → q.size ≤ length q.relations
-        → (every good_cell query.cells ≡ true → good_next_step (Some (a, b)) ≡ true) → Under q ds (map_cells (substitute_cell v e) query) (count + 1)
-    under-replace count under fits good =
+    pub under-replace : (count : ℕ) → Under q ds query count → good_next_step (Some (a, b)) ≡ true
+        → Under q ds (map_cells (substitute_cell v e) query) (count + 1)
+    under-replace count under both =
+        let good-e = resolve-good (in_head (wide_query query)) a b v e (and_left (good_entry a) (good_entry b) both)
+        (and_right (good_entry a) (good_entry b) both) resolved in
         let after = chase ds (wide_query (map_cells (substitute_cell v e) query)) in
         let one : count + suc after.count ≡ count + 1 + after.count = omega arith in
         record {
@@ -190,20 +194,8 @@ module _
           same_size = under.same_size;
           same-relations = under.same-relations;
           head-length = length-map query.head (substitute_cell v e) ∙ under.head-length;
-          keeps-good =
-              λ schema good-q.
-              let good-query = under.keeps-good schema good-q in
-              let inside : query.size ≤ length query.relations = rw (under.same_size, under.same-relations) fits in
-              let both = good (all-cells 24 schema query good-query inside) in
-              good-kept
-              v
-              e
-              (resolve-good (in_head (wide_query query)) a b v e (and_left (good_entry a) (good_entry b) both)
-              (and_right (good_entry a) (good_entry b) both) resolved)
-              24
-              schema
-              query
-              good-query;
+          keeps-good = λ schema good-q. good-kept v e good-e 24 schema query (under.keeps-good schema good-q);
+          cells-good = cells-kept v e good-e query.cells under.cells-good;
           rest-blank = unused-kept v e (8 * query.size) query.cells under.rest-blank;
           chase-is = under.chase-is ∙ ap (later count) one-replaced ∙ ap (λ n. record { query = after.query; count = n }) one;
         }

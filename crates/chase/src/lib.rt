@@ -27,7 +27,7 @@ pub fn chase(t: Tableau, dependencies: &[Dependency]) -> Chased
     let mut query = t;
     let mut count: u8 = 0;
     while let Some((a, b)) = find_step(query, dependencies) {
-        let Some(replacement) = resolve(query, a, b) else {
+        let Some(replacement) = resolve(&query, a, b) else {
             return Chased {
                 query: Tableau::never(t.arity),
                 count,

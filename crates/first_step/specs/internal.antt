@@ -1,3 +1,2 @@
 -- What functions of this crate cite, and the crates above it.
 pub mod Wide
-pub mod Marks

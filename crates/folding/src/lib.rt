@@ -14,9 +14,10 @@ ghost use Rattle.folding.specs.internal.Kept.{Readable, IsKept};
 use candidates::marks::marks_where;
 use candidates::table::{domains, repeats, table};
 use consistency::all_links;
-use mapping::cells::{codes, flat};
+use mapping::cells::flat;
 use query::{Cell, Query};
 use search::solve_linked;
+use tableaux::codes_of;
 
 // The candidates of each row that are left. The head keeps its own.
 // Kept as it is: that there are at most 12 rows is a fact about a number, as in `consistency`.
@@ -99,8 +100,8 @@ pub fn kept(q: Query) -> u32
     let target = tableaux::from_query(q);
     let line: [Cell; 104] = flat(&q.cells, &q.head);
     let cells: [Cell; 200] = flat(&target.cells, &target.head);
-    let from = codes(&line);
-    let to = codes(&cells);
+    let from = codes_of(&line);
+    let to = codes_of(&cells);
     let offered = target.relations;
     let domain = domains(&from, &to, q.relations, offered, size, size);
     let pairs = table(&from, &to, size, size);

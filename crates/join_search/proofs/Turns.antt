@@ -1,47 +1,20 @@
 -- What a turn of a loop shows: over the columns of what is left of a set, and over numbers in order. Assumes nothing.
-use mathlib.Core.Path.{◌≡◌, refl, sym, ◌∙◌, ap, ap₂}
-use mathlib.Core.Bool.{Bool, true, false, cond, ◌&&◌, ◌||◌}
-use mathlib.Core.List.{List, ◌∷◌}
-use Rattle.std.specs.List.{list_all, list_any, range_with_len}
+use mathlib.Core.Path.{◌≡◌, refl, ◌∙◌, ap}
+use mathlib.Core.Bool.{Bool, true, false, cond, ◌||◌}
+use mathlib.Core.List.{◌∷◌}
+use Rattle.std.specs.List.{list_any, range_with_len}
 use mathlib.Core.Option.{Option, none, some, or_else}
-use Prim.Native.Nat.{ℕ, suc, ◌+◌, ◌-◌, ◌/◌, ◌%◌, ◌^◌, ◌≤◌, ◌<◌}
-use lib.Pow.{shr-shr}
+use Prim.Native.Nat.{ℕ, suc, ◌+◌, ◌-◌, ◌/◌, ◌%◌, ◌≤◌, ◌<◌}
 use native.Mathlib.Numerals.{add-one}
 use native.Mathlib.Omega.{arith}
-use borrow.Author.Tests.{eqb-true, eqb-false, eq-eqb, ne_eqb}
+use borrow.Author.Tests.{eq-eqb, ne_eqb}
 use lib.Dec.{eqb}
-use Rattle.lists.specs.Tests.{every}
 use Rattle.theory.specs.Query.{member, ◌∈◌}
 use Rattle.theory.proofs.Lists.{bool_cases, mem-cases, not-mem-member}
 use Rattle.query.specs.View.{columns_from}
 use Rattle.join_search.specs.internal.Search.{first_of, some_of}
 
 -- ---- columns
-
--- What is left of a set at the first column, and at the next one
-pub left-first : (set : ℕ) → set / 2 ^ 0 ≡ set
-left-first set = omega arith
-
-pub left_next : (set c : ℕ) → set / 2 ^ c / 2 ≡ set / 2 ^ (c + 1)
-left_next set c = shr-shr set c 1
-
--- Where each of n columns from `start` on is not in a set or passes a test, each of the set's does
-pub columns_all : (test : ℕ → Bool) (set start n : ℕ)
-    → list_all (λ c. eqb (set / 2 ^ c % 2) 0 || test c) (range_with_len start n) ≡ every test (columns_from start n (set / 2 ^ start))
-unfolding columns_from every
-columns_all test set start Prim.Native.Nat.zero = refl
-columns_all test set start (suc n) =
-    ap (λ t. (eqb (set / 2 ^ start % 2) 0 || test start) && t)
-    (columns_all test set (start + 1) n ∙ ap₂ (λ c rest. every test (columns_from c n rest)) (add-one start) (sym (left_next set start)))
-    ∙ digit (set / 2 ^ start % 2) (omega arith) (columns_from (suc start) n (set / 2 ^ start / 2))
-  where
-    digit : (b : ℕ) → b < 2 → (cs : List ℕ) → (eqb b 0 || test start) && every test cs ≡ every test (cond (eqb b 1) (start ∷ cs) cs)
-    digit b less cs =
-        bool_cases (eqb b 1) (λ e. let one : b ≡ 1 = eqb-true b 1 e in rw (e, ne_eqb b 0 (λ none. absurd (omega (arith, none)))))
-        (λ e. let none : b ≡ 0 = omega (arith, eqb-false b 1 e) in rw (e, eq-eqb b 0 none))
-
-pub columns-all : (test : ℕ → Bool) (set : ℕ) → list_all (λ c. eqb (set / 2 ^ c % 2) 0 || test c) (range_with_len 0 8) ≡ every test (columns_from 0 8 set)
-columns-all test set = columns_all test set 0 8 ∙ ap (λ rest. every test (columns_from 0 8 rest)) (left-first set)
 
 -- The columns of n bits of a mask are the n from the start on
 pub columns-range : (start n mask : ℕ) {c : ℕ} → c ∈ columns_from start n mask → (start ≤ c) × (c < start + n)

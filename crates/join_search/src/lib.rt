@@ -5,26 +5,18 @@
 #![tactic(auto)]
 
 ghost use Rattle.std.specs.Prelude.{◌≡◌, true, ◌+◌, ◌*◌, ◌≤◌, ◌<◌, take, drop};
-ghost use Rattle.join_search.specs.internal.Search.{same_on, goes, choose, some_goes, all_go, is_first, extend_of, found_of, free_row};
+ghost use Rattle.join_search.specs.internal.Search.{goes, choose, some_goes, all_go, is_first, extend_of, found_of, free_row};
 ghost use Rattle.join_search.specs.internal.Search.{Spare, Extendable};
 
 use query::JoinDependency;
+use tableaux::same_on;
 
 // No entry has this code.
 // Kept as it is: a number among codes, so that a column takes one word and one comparison; an Option of a code would take two.
 pub const FREE: u32 = u32::MAX;
 
-// Whether two rows have the same codes in the columns of a set.
-// Kept as it is: that a row is below 24 is a fact about a number, and a type of its own would be taken apart at each index.
-// Kept as it is: `first_step::agree` has this body on marks of 64 bits; for one line a generic function would ask for a crate below both and a law of `==`.
-fn same_on(codes: &[u32; 192], set: u8, i: usize, e: usize) -> bool
-    requires { (i < 24) × (e < 24) }
-    ensures { result ≡ same_on codes.now set i e }
-{
-    (0..8usize).all(|c| (set >> c) % 2 == 0 || codes[8 * i + c] == codes[8 * e + c])
-}
-
 // Whether row i has what is chosen in the columns of a set.
+// Kept as it is: that a row is below 24 is a fact about a number, and a type of its own would be taken apart at each index.
 fn goes(codes: &[u32; 192], set: u8, chosen: [u32; 8], i: usize) -> bool
     requires { i < 24 }
     ensures { result ≡ goes codes.now set chosen i }

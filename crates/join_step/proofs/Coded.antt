@@ -20,7 +20,7 @@ use Rattle.query.specs.internal.Code.{code_of}
 use Rattle.query.proofs.Good.{good-query}
 use Rattle.query.proofs.Stored.{Within, entry-within, row-good, all-cells, rows_fit}
 use Rattle.query.proofs.Shape.{row_count, row_from, row_is, column-is, blank-cell}
-use Rattle.join_step.specs.internal.Step.{codes_of}
+use Rattle.tableaux.specs.internal.Codes.{codes_of}
 use Rattle.join_step.proofs.Choosing.{no_row, Coded}
 
 module _ (most : ℕ) (schema : List ℕ) (narrow : (i : ℕ) → get_or schema i 0 ≤ 8) (q : Query) (good : good_up_to most schema q ≡ true)

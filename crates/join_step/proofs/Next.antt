@@ -19,7 +19,8 @@ use Rattle.query.proofs.Good.{good-query}
 use Rattle.query.proofs.Shape.{row_count}
 use Rattle.join_search.specs.internal.Search.{free_row, extend_of}
 use Rattle.std.specs.Prelude.{None, Some}
-use Rattle.join_step.specs.internal.Step.{codes_of, cell_of, IsNext}
+use Rattle.join_step.specs.internal.Step.{cell_of, IsNext}
+use Rattle.tableaux.specs.internal.Codes.{codes_of}
 use Rattle.join_step.proofs.Choosing.{Coded}
 use Rattle.join_step.proofs.Coded.{tableau-coded}
 use Rattle.join_step.proofs.Found.{next-none, next-found}

@@ -30,10 +30,12 @@ use Rattle.query.proofs.Good.{good-query, make-query}
 use Rattle.query.proofs.Stored.{row_at}
 use Rattle.query.proofs.Shape.{row_count, rows-length}
 use Rattle.query.proofs.Codes.{code_same}
-use Rattle.join_search.specs.internal.Search.{is_first, same_on, some_of}
+use Rattle.join_search.specs.internal.Search.{is_first, some_of}
+use Rattle.tableaux.specs.internal.Codes.{same_on}
 use Rattle.join_search.proofs.Turns.{columns-range}
 use Rattle.join_search.proofs.Search.{some_is, is_some}
-use Rattle.join_step.specs.internal.Step.{codes_of, with_row, distinct_to}
+use Rattle.join_step.specs.internal.Step.{with_row, distinct_to}
+use Rattle.tableaux.specs.internal.Codes.{codes_of}
 use Rattle.join_step.proofs.Choosing.{code, no_row, Coded, all-columns, every_of}
 use Rattle.join_step.proofs.Coded.{stored_row, tableau-coded}
 

@@ -5,29 +5,17 @@
 ghost use Rattle.std.specs.Prelude.{◌≡◌, true, List, map, ℕ, ◌*◌, ◌≤◌, ◌<◌, take, drop, get_or};
 ghost use Rattle.query.specs.Rule.{good_tableau, good_join};
 ghost use Rattle.lists.specs.Tests.{every};
-ghost use Rattle.join_step.specs.internal.Step.{codes_of, cell_of, with_row, distinct_to, Joinable, IsNext};
+ghost use Rattle.join_step.specs.internal.Step.{cell_of, with_row, distinct_to, Joinable, IsNext};
 
 use join_search::{first_missing, is_first};
 use query::{Cell, Entry, JoinDependency, Tableau};
+use tableaux::codes_of;
 
 // A row that is to be added: its relation, and its cells.
 #[derive(Clone, Copy)]
 pub struct NextRow {
     pub relation: u8,
     pub row: [Cell; 8],
-}
-
-// The codes of cells.
-// Kept as it is: `mapping::cells::codes` has this body, for a clause of frozen entries; one function for both would stand in `query`, with a clause of its own.
-fn codes_of(cells: [Cell; 192]) -> [u32; 192]
-    ensures { result ≡ codes_of cells }
-{
-    // Kept as it is: `cells.map(..)` takes eight times as many instructions.
-    let mut codes = [0u32; 192];
-    for (k, cell) in cells.iter().enumerate() {
-        codes[k] = u32::from(cell.entry);
-    }
-    codes
 }
 
 // The cell of a code. One that is free is a column that the relation does not have.
@@ -55,7 +43,7 @@ pub fn next_row(t: Tableau, joins: &[JoinDependency]) -> Option<NextRow>
     ensures { (schema : List ℕ) → ((i : ℕ) → get_or schema i 0 ≤ 8) → good_tableau schema t ≡ true → every (good_join schema) joins.now ≡ true
         → IsNext schema t joins.now result }
 {
-    let codes = codes_of(t.cells);
+    let codes = codes_of(&t.cells);
     let size = t.size as usize;
     for j in joins {
         if let Some(row) = first_missing(&codes, &t.relations, size, *j) {
@@ -102,7 +90,7 @@ pub fn without_repeats(t: Tableau) -> Tableau
     requires { t.size ≤ 24 }
     ensures { result ≡ distinct_to t t.size }
 {
-    let codes = codes_of(t.cells);
+    let codes = codes_of(&t.cells);
     let size = t.size as usize;
     let mut kept = Tableau {
         size: 0,

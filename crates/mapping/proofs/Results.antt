@@ -6,12 +6,14 @@ use mathlib.Core.List.{List}
 use Prim.Native.Nat.{ℕ, ◌+◌, ◌*◌, ◌≤◌, ◌<◌}
 use native.Mathlib.Decide.{dec_lt}
 use native.Mathlib.Omega.{arith}
-use lib.ListN.{get_or, length, take, get_or-eq_default}
+use lib.ListN.{get_or, length, take, get_or-map, get_or-eq_default}
 use lib.Seq.{get_or-take, length-take-le}
 use Rattle.std.specs.Prelude.{None, Some}
 use Rattle.theory.specs.Query.{Entry, constant, variable}
 use Rattle.theory.specs.Answer.{value_of}
 use Rattle.theory.specs.Containment.{freeze}
+use Rattle.query.specs.internal.Code.{code_of}
+use Rattle.tableaux.specs.internal.Codes.{codes_of}
 use Rattle.query.specs.declared.Cell.{Cell}
 use Rattle.query.specs.Types.{Query}
 use Rattle.query.specs.Types.{Tableau}
@@ -51,9 +53,11 @@ line-entry most q cells line k h = ap (λ (c : Cell). entry_of c.entry) (line k 
 abbrev pub CodesOf : ℕ → Query → List ℕ → Type 0
 CodesOf most q codes = (k : ℕ) → k < 8 * most + 8 → get_or codes k 0 ≡ freeze 2147483648 (entry_at most q k)
 
-pub line_code : (most : ℕ) (q : Query) (cells : List Cell) (codes : List ℕ) → InLine most q cells
-    → ((k : ℕ) → k < 8 * most + 8 → get_or codes k 0 ≡ freeze 2147483648 (entry_in cells k)) → CodesOf most q codes
-line_code most q cells codes line is k h = is k h ∙ ap (freeze 2147483648) (line-entry most q cells line k h)
+pub line_code : (most : ℕ) (q : Query) (cells : List Cell) (codes : List ℕ) → InLine most q cells → codes ≡ codes_of cells → CodesOf most q codes
+line_code most q cells codes line is k h =
+    ap (λ (l : List ℕ). get_or l k 0) is
+    ∙ get_or-map (λ (x : Cell). code_of x.entry) cells k no_cell
+    ∙ ap (freeze 2147483648) (line-entry most q cells line k h)
 
 pub code-small : (q : Query) → Storable q → SizedFor 12 q → (codes : List ℕ) → CodesOf 12 q codes → (k : ℕ) → k < 104 → get_or codes k 0 < 2147483744
 code-small q s sizes codes is k h =

@@ -1,8 +1,7 @@
-// A query or a tableau in one line: the cells of its rows, then those of its head; and their codes. Rows and head are 8 wide, blanks included.
+// A query or a tableau in one line: the cells of its rows, then those of its head. Rows and head are 8 wide, blanks included.
 ghost use Rattle.std.specs.Prelude.{◌≡◌, ℕ, ◌+◌, ◌<◌, get_or};
-ghost use Rattle.theory.specs.Containment.{freeze};
 ghost use Rattle.query.specs.Rule.{no_cell};
-ghost use Rattle.mapping.specs.internal.Lines.{line_at, entry_in};
+ghost use Rattle.mapping.specs.internal.Lines.{line_at};
 
 use query::Cell;
 
@@ -19,16 +18,4 @@ pub fn flat<const CELLS: usize, const LINE: usize>(
     rows.copy_from_slice(cells);
     end.copy_from_slice(head);
     line
-}
-
-// The codes of cells.
-// Kept as it is: a `for`, since the arrays' `map` asks that its iterator fits in memory, which is not known of every LINE.
-pub fn codes<const LINE: usize>(line: &[Cell; LINE]) -> [u32; LINE]
-    ensures { (k : ℕ) → k < LINE → get_or result k 0 ≡ freeze 2147483648 (entry_in line.now k) }
-{
-    let mut codes = [0u32; LINE];
-    for (k, cell) in line.iter().enumerate() {
-        codes[k] = u32::from(cell.entry);
-    }
-    codes
 }

@@ -3,15 +3,16 @@
 
 mod assign; // assign.rt: the images of the variables, from the images of the rows
 mod carry; // carry.rt: whether given images carry entries, rows and a head
-pub mod cells; // cells.rt: a query or a tableau in one line of cells, and their codes
+pub mod cells; // cells.rt: a query or a tableau in one line of cells
 
 ghost use Rattle.mapping.specs.internal.Mapped.{Storable, StorableTableau, Finds, Checks};
 
 use crate::assign::assign;
 use crate::carry::{all_land, carries, rest_blank};
-use crate::cells::{codes, flat};
+use crate::cells::flat;
 use candidates::table::{domains, table};
 use query::{Cell, Query, Tableau};
+use tableaux::codes_of;
 
 // The image of each variable under a mapping from a query to a tableau of the same arity, if there is one. Which one is free.
 pub fn find(source: Query, target: Tableau) -> Option<[Cell; 96]>
@@ -25,8 +26,8 @@ pub fn find(source: Query, target: Tableau) -> Option<[Cell; 96]>
     }
     let line: [Cell; 104] = flat(&source.cells, &source.head);
     let cells: [Cell; 200] = flat(&target.cells, &target.head);
-    let from = codes(&line);
-    let to = codes(&cells);
+    let from = codes_of(&line);
+    let to = codes_of(&cells);
     let domain = domains(&from, &to, source.relations, target.relations, size, count);
     let pairs = table(&from, &to, size, count);
     let chosen = search::solve(&domain, &pairs, size + 1)?;

@@ -1,25 +1,24 @@
--- Laws of one step of the chase on stored entries: the replacement, the survivor, and what stands in a head. Assumes nothing.
+-- Laws of one step of the chase on stored entries: the replacement, and what stands in a head. Assumes nothing.
 use mathlib.Core.Path.{◌≡◌, refl, ◌∙◌, ap, ap₂}
-use mathlib.Core.Bool.{Bool, true, false, beq}
+use mathlib.Core.Bool.{Bool, true, false}
 use mathlib.Core.List.{List, [], ◌∷◌, ◌++◌, map}
 use Prim.Native.Nat.{ℕ, zero, suc}
-use lib.Dec.{eqb, ltb}
+use lib.Dec.{eqb}
 use lib.ListN.{take, drop, get_or}
 use borrow.Author.Tests.{eq-eqb, ne_eqb}
 use Rattle.query.specs.declared.Entry.{Entry}
 use Rattle.query.specs.declared.Entry.TheVariants.{Constant, Variable}
 use Rattle.query.specs.declared.Cell.{Cell}
-use Rattle.query.specs.View.{entry_of, entries_of}
+use Rattle.query.specs.View.{entries_of}
 use Rattle.query.specs.Rule.{blank_cell}
 use Rattle.lists.specs.Tests.{every}
 use Rattle.lists.proofs.Tests.{and_left, and_right}
 use Rattle.lists.proofs.Maps.{map_first}
 use Rattle.query.proofs.Shape.{blank-entry}
 use Rattle.theory.proofs.Lists.{bool_cases}
-use Rattle.replacement.specs.internal.Replacement.{substitute_entry, substitute_cell, entry_in_head, holds_variable}
+use Rattle.replacement.specs.internal.Replacement.{substitute_entry, substitute_cell, stands_in}
 use Rattle.std.specs.List.{list_any}
 use Rattle.theory.specs.Query.{variables_of, member}
-use Rattle.theory.specs.Chase.{survives, resolve, clash, replace}
 
 -- A cell with another entry
 abbrev cell_of : Entry → Cell
@@ -60,58 +59,18 @@ substitute-used v e zero (c ∷ cs) blank =
 substitute-used v e (suc k) [] blank = refl
 substitute-used v e (suc k) (c ∷ cs) blank = ap (λ (l : List Cell). substitute_cell v e c ∷ l) (substitute-used v e k cs blank)
 
--- ---- the survivor
+-- ---- what stands in cells
 
--- `survives` by what it asks of the head: where both variables stand there or neither does, the lower number survives, and else the one that does
-pub survives-same : (in_head : ℕ → Bool) (v w : ℕ) (a b : Bool) → in_head v ≡ a → in_head w ≡ b → beq a b ≡ true → ltb v w ≡ survives in_head v w
-unfolding survives
-survives-same in_head v w true true p q same = rw (p, q)
-survives-same in_head v w false false p q same = rw (p, q)
-survives-same in_head v w true false p q same = cc
-survives-same in_head v w false true p q same = cc
+-- Whether a cell holds a variable
+abbrev entry_holds : ℕ → Entry → Bool
+entry_holds v (Constant n) = false
+entry_holds v (Variable w) = eqb v w
 
-pub survives-other : (in_head : ℕ → Bool) (v w : ℕ) (a b : Bool) → in_head v ≡ a → in_head w ≡ b → beq a b ≡ false → a ≡ survives in_head v w
-unfolding survives
-survives-other in_head v w true false p q other = rw (p, q)
-survives-other in_head v w false true p q other = rw (p, q)
-survives-other in_head v w true true p q other = cc
-survives-other in_head v w false false p q other = cc
-
--- A stored variable is in the head as its number is
-pub variable-in-head : (in_head : ℕ → Bool) (e : Entry) (v : ℕ) (b : Bool) → e ≡ Variable v → entry_in_head in_head (entry_of e) ≡ b → in_head v ≡ b
-variable-in-head in_head e v b is p = rw is at p
-
-pub in-head-variable : (in_head : ℕ → Bool) (e : Entry) (v : ℕ) (b : Bool) → e ≡ Variable v → b ≡ in_head v → b ≡ entry_in_head in_head (entry_of e)
-in-head-variable in_head e v b is p = rw is p
-
--- `resolve` of two stored entries, by their cases
-module _ (in_head : ℕ → Bool) (a b : Entry) where
-  pub resolve-constants : (m n : ℕ) → a ≡ Constant m → b ≡ Constant n → clash ≡ resolve in_head (entry_of a) (entry_of b)
-  unfolding resolve
-  resolve-constants m n p q = rw (p, q)
-
-  pub resolve_left : (m w : ℕ) → a ≡ Constant m → b ≡ Variable w → replace w (entry_of a) ≡ resolve in_head (entry_of a) (entry_of b)
-  unfolding resolve
-  resolve_left m w p q = rw (p, q)
-
-  pub resolve_right : (v n : ℕ) → a ≡ Variable v → b ≡ Constant n → replace v (entry_of b) ≡ resolve in_head (entry_of a) (entry_of b)
-  unfolding resolve
-  resolve_right v n p q = rw (p, q)
-
-  pub resolve-first : (v w : ℕ) → a ≡ Variable v → b ≡ Variable w → survives in_head v w ≡ true
-      → replace w (entry_of a) ≡ resolve in_head (entry_of a) (entry_of b)
-  unfolding resolve
-  resolve-first v w p q s = rw (p, q, s)
-
-  pub resolve-second : (v w : ℕ) → a ≡ Variable v → b ≡ Variable w → survives in_head v w ≡ false
-      → replace v (entry_of b) ≡ resolve in_head (entry_of a) (entry_of b)
-  unfolding resolve
-  resolve-second v w p q s = rw (p, q, s)
-
--- ---- the head
+abbrev pub holds_variable : ℕ → Cell → Bool
+holds_variable v cell = entry_holds v cell.entry
 
 -- A variable stands in some cells exactly when it is one of their variables
-pub any-member : (v : ℕ) (cells : List Cell) → list_any (holds_variable v) cells ≡ member v (variables_of (entries_of cells))
+pub any-member : (v : ℕ) (cells : List Cell) → list_any (holds_variable v) cells ≡ stands_in cells v
 unfolding variables_of member
 any-member v [] = refl
 any-member v (cell ∷ cells) = go cell.entry (any-member v cells)
@@ -120,7 +79,3 @@ any-member v (cell ∷ cells) = go cell.entry (any-member v cells)
         → list_any (holds_variable v) (cell_of e ∷ cells) ≡ member v (variables_of (entries_of (cell_of e ∷ cells)))
     go (Constant n) later = later
     go (Variable w) later = bool_cases (eqb v w) (λ p. rw p) (λ p. rw p later)
-
-pub any-in-head : (v n m : ℕ) (cells : List Cell) (b : Bool) → n ≡ m → b ≡ list_any (holds_variable v) (take n cells)
-    → b ≡ member v (variables_of (entries_of (take m cells)))
-any-in-head v n m cells b same is = rw (← same) (is ∙ any-member v (take n cells))

@@ -1,12 +1,12 @@
 // What a step of the chase does with the two entries that it finds (SPECIFICATION, The chase): which of them survives, and the replacement of the other.
 #![tactic(auto)]
 
-ghost use Rattle.std.specs.Prelude.{◌≡◌, Bool, true, map, ℕ, ◌*◌, ◌≤◌, take, drop};
-ghost use Rattle.std.specs.List.{list_any};
+ghost use Rattle.std.specs.Prelude.{◌≡◌, true, map, ◌*◌, ◌≤◌, drop};
 ghost use Rattle.query.specs.View.{entry_of, as_query};
-ghost use Rattle.query.specs.Rule.{blank_cell};
+ghost use Rattle.query.specs.Rule.{blank_cell, good_entry};
 ghost use Rattle.lists.specs.Tests.{every};
-ghost use Rattle.replacement.specs.internal.Replacement.{head_holds, holds_variable, entry_in_head, resolution_of, Survivor, substitute_cell, map_cells};
+ghost use Rattle.replacement.specs.internal.Replacement.{stands_in, head_holds, resolution_of, substitute_cell, map_cells};
+ghost use Rattle.replacement.specs.Keys as keys;
 ghost use Rattle.theory.specs.Chase as chasing;
 
 use query::{Cell, Entry, Tableau};
@@ -21,7 +21,7 @@ pub struct Replacement {
 // Whether variable v stands in some cells.
 // Kept as it is: an entry taken apart by `match` is a form of the project's scope in the chase.
 fn stands(cells: &[Cell], v: u8) -> bool
-    ensures { result ≡ list_any (holds_variable v) cells.now }
+    ensures { result ≡ stands_in cells.now v }
 {
     cells.iter().any(|cell| match cell.entry {
         Entry::Constant(_) => false,
@@ -29,62 +29,42 @@ fn stands(cells: &[Cell], v: u8) -> bool
     })
 }
 
-// Whether an entry is a variable that stands in the head.
-fn in_head(t: Tableau, e: Entry) -> bool
-    requires { t.arity ≤ 8 }
-    ensures { result ≡ entry_in_head (head_holds (as_query t)) (entry_of e) }
+// The key of an entry (SPECIFICATION, The chase), by the head of its query. Of entries within the limits, constants have the smallest keys, then come the
+// variables in the head.
+fn key(head: &[Cell], e: Entry) -> u32
+    ensures { result ≡ keys.key (stands_in head.now) (entry_of e) }
 {
     match e {
-        Entry::Constant(_) => false,
-        Entry::Variable(v) => stands(&t.head[..usize::from(t.arity)], v),
+        Entry::Constant(n) => n,
+        Entry::Variable(v) => {
+            if stands(head, v) {
+                2_147_483_648 + u32::from(v)
+            } else {
+                2_147_483_744 + u32::from(v)
+            }
+        }
     }
 }
 
-// Whether variable v survives variable w: one in the head survives one that is not, otherwise the lower number survives.
-fn survives(v: u8, v_in_head: bool, w: u8, w_in_head: bool) -> bool
-    ensures { (in_head : ℕ → Bool) → in_head v ≡ v_in_head → in_head w ≡ w_in_head → result ≡ chasing.survives in_head v w }
+// The replacement that makes two different entries of a tableau equal, or none where they clash: the entry with the smaller key survives. Where the larger
+// key is a constant's both entries are constants, and clash.
+pub fn resolve(t: &Tableau, a: Entry, b: Entry) -> Option<Replacement>
+    requires { (t.now.arity ≤ 8) × (good_entry a ≡ true) × (good_entry b ≡ true) }
+    ensures { resolution_of result ≡ chasing.resolve (head_holds (as_query t.now)) (entry_of a) (entry_of b) }
 {
-    if v_in_head == w_in_head {
-        v < w
+    let head = &t.head[..usize::from(t.arity)];
+    let (survivor, other) = if key(head, a) < key(head, b) {
+        (a, b)
     } else {
-        v_in_head
-    }
-}
-
-// What makes two different entries equal: nothing where both are constants, a constant survives a variable, and of two variables one `survives`.
-fn survivor(a: Entry, a_in_head: bool, b: Entry, b_in_head: bool) -> Option<Replacement>
-    ensures { Survivor a a_in_head b b_in_head (resolution_of result) }
-{
-    match (a, b) {
-        (Entry::Constant(_), Entry::Constant(_)) => None,
-        (Entry::Constant(_), Entry::Variable(w)) => Some(Replacement {
-            variable: w,
-            entry: a,
-        }),
-        (Entry::Variable(v), Entry::Constant(_)) => Some(Replacement {
+        (b, a)
+    };
+    match other {
+        Entry::Constant(_) => None,
+        Entry::Variable(v) => Some(Replacement {
             variable: v,
-            entry: b,
-        }),
-        (Entry::Variable(v), Entry::Variable(w)) => Some(if survives(v, a_in_head, w, b_in_head) {
-            Replacement {
-                variable: w,
-                entry: a,
-            }
-        } else {
-            Replacement {
-                variable: v,
-                entry: b,
-            }
+            entry: survivor,
         }),
     }
-}
-
-// The replacement that makes two different entries of a tableau equal, or none where they clash.
-pub fn resolve(t: Tableau, a: Entry, b: Entry) -> Option<Replacement>
-    requires { t.arity ≤ 8 }
-    ensures { resolution_of result ≡ chasing.resolve (head_holds (as_query t)) (entry_of a) (entry_of b) }
-{
-    survivor(a, in_head(t, a), b, in_head(t, b))
 }
 
 // A cell after a replacement.

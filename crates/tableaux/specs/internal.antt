@@ -1,2 +1,3 @@
--- A stored query as a tableau, and back.
+-- What functions of this crate cite, and the crates above it.
 pub mod Tableaux
+pub mod Codes

@@ -1,10 +1,11 @@
-// A stored query as a tableau, which has room for more rows, and back.
+// A stored query as a tableau, which has room for more rows, and back; and a tableau's cells as codes, in which rows are compared.
 #![tactic(auto)]
 
-ghost use Rattle.std.specs.Prelude.{◌≡◌, ◌++◌, length, take, drop};
+ghost use Rattle.std.specs.Prelude.{◌≡◌, ◌++◌, ◌<◌, length, take, drop};
 ghost use Rattle.tableaux.specs.internal.Tableaux.{with_room, tableau_of, stored_of};
+ghost use Rattle.tableaux.specs.internal.Codes.{codes_of, same_on};
 
-use query::{ConjunctiveQuery, Query, Tableau};
+use query::{Cell, ConjunctiveQuery, Query, Tableau};
 
 // Puts the first of some elements over others, as many as there is room for.
 fn put_fitting<T: Copy>(out: &mut [T], xs: &[T])
@@ -41,4 +42,26 @@ pub fn to_query(t: Tableau) -> Query
     ensures { result ≡ stored_of t }
 {
     with_room(t)
+}
+
+// The codes of cells.
+// Kept as it is: a `for`, since the arrays' `map` asks that its iterator fits in memory, which is not known of every N; and for cells it takes eight times as
+// many instructions.
+pub fn codes_of<const N: usize>(cells: &[Cell; N]) -> [u32; N]
+    ensures { result ≡ codes_of cells.now }
+{
+    let mut codes = [0u32; N];
+    for (k, cell) in cells.iter().enumerate() {
+        codes[k] = u32::from(cell.entry);
+    }
+    codes
+}
+
+// Whether two rows have the same codes in the columns of a set.
+// Kept as it is: that a row is below 24 is a fact about a number, and a type of its own would be taken apart at each index.
+pub fn same_on(codes: &[u32; 192], set: u8, i: usize, e: usize) -> bool
+    requires { (i < 24) × (e < 24) }
+    ensures { result ≡ same_on codes.now set i e }
+{
+    (0..8usize).all(|c| (set >> c) % 2 == 0 || codes[8 * i + c] == codes[8 * e + c])
 }

@@ -19,7 +19,7 @@ pub loop-a-init : goal.loop-a-init
 loop-a-init c =
     let room : length c.args.t.relations ≡ 24 = search (mapped-length, rules) in
     let eight : length c.args.t.head ≡ 8 = search (mapped-length, rules) in
-    (room, eight, under-start _ _ c.requires.rest-blank)
+    (room, eight, under-start _ _ c.requires.cells-good c.requires.rest-blank)
 
 pub returns : goal.returns
 returns c =
@@ -117,6 +117,5 @@ loop-a-preserved c =
     (rw c.in-Some-resolve.is at c.resolve.ensures)
     l.count
     l.invariant.2
-    (omega (arith, s.requires.size_fits))
     (rw c.in-Some.is at c.find_step.ensures.1) in
     (room, l.invariant.1, rw c.replace-query.ensures next)

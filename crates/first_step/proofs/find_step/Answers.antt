@@ -41,8 +41,7 @@ loop-j-preserved c =
       l.invariant.2
           ∙ pair-next (rows_only a.t.size a.t.relations a.t.cells) a.dependencies.now d i l.j (search rules)
           (sym
-          (c.breaks.ensures a.t.cells
-          c.marks_of-marks.ensures)
+          (c.breaks.ensures a.t.cells c.requires.cells-good c.codes_of-codes.ensures)
           ∙ c.if-breaks.false),
     )
 
@@ -69,9 +68,9 @@ returns-then-breaks c =
     let l = c.loop-j in
     let fits : (get_or a.dependencies.now d no_dependency).right < 8 = c.requires.right-fits d (search rules) in (
       pair_found (rows_only a.t.size a.t.relations a.t.cells) a.dependencies.now d c.loop-i.i l.j _ _ (search rules) fits
-          (sym c.if-breaks.true ∙ c.breaks.ensures a.t.cells c.marks_of-marks.ensures) refl refl l.invariant.2
+          (sym c.if-breaks.true ∙ c.breaks.ensures a.t.cells c.requires.cells-good c.codes_of-codes.ensures) refl refl l.invariant.2
           ∙ ap (first_differing (map dependency_of a.dependencies.now)) (rows-only (as_query a.t) 0 a.t.size),
-      λ good. and_both _ _ (good-read _ _ _ refl good) (good-read _ _ _ refl good),
+      and_both _ _ (good-read _ _ _ refl c.requires.cells-good) (good-read _ _ _ refl c.requires.cells-good),
     )
 
 pub returns-after-loop-d : goal.returns-after-loop-d
@@ -81,5 +80,5 @@ returns-after-loop-d c =
       nothing-found (rows_only a.t.size a.t.relations a.t.cells) a.dependencies.now
           (l.invariant.1 ∙ dependency-last (rows_only a.t.size a.t.relations a.t.cells) a.dependencies.now l.d-index (search rules))
           ∙ ap (first_differing (map dependency_of a.dependencies.now)) (rows-only (as_query a.t) 0 a.t.size),
-      λ good. refl,
+      refl,
     )

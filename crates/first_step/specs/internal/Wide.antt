@@ -9,7 +9,7 @@ use Rattle.query.specs.Types.{Query}
 use Rattle.query.specs.Types.{Tableau}
 use Rattle.query.specs.declared.Dependency.{Dependency}
 use Rattle.query.specs.View.{entry_of, entries_of}
-use Rattle.query.specs.Rule.{good_entry, blank_cell, no_dependency}
+use Rattle.query.specs.Rule.{good_entry, good_cell, blank_cell, no_dependency}
 use Rattle.lists.specs.Tests.{every}
 use Rattle.theory.specs.Query as theory
 use Rattle.theory.specs.Database as database
@@ -61,10 +61,18 @@ good_next_step (Some found) = good_entry found.0 && good_entry found.1
 
 -- ---- what the search asks
 
--- What the chase asks of its caller, so that each cell that it reads is there and those not in use hold no variable: every good tableau and good
--- dependencies have it
+-- Two of 24 rows, of which row i is of a dependency's relation
+pub record Laid (relations : List ℕ) (d : Dependency) (i j : ℕ) : Type 0 where
+  pub first_fits : i < 24
+  pub second_fits : j < 24
+  pub right-fits : d.right < 8
+  pub first_of : get_or relations i 0 ≡ d.relation
+
+-- What the chase asks of its caller, so that each cell that it reads is there and within the limits, and those not in use hold no variable: every good
+-- tableau and good dependencies have it
 pub record Chasable (t : Tableau) (dependencies : List Dependency) : Type 0 where
   pub arity-fits : t.arity ≤ 8
   pub size_fits : t.size ≤ 24
   pub right-fits : (d : ℕ) → d < length dependencies → (get_or dependencies d no_dependency).right < 8
+  pub cells-good : every good_cell t.cells ≡ true
   pub rest-blank : every blank_cell (drop (8 * t.size) t.cells) ≡ true

@@ -53,7 +53,8 @@ pub chase-chased-requires : goal.chase-chased-requires
 chase-chased-requires c =
     let p = c.requires in
     let a = c.args in
-    chasable a.schema.now a.dependencies.now a.t p.widths-good p.dependencies-good p.tableau-good
+    let long : length a.t.relations ≡ 24 = search (mapped-length, rules) in
+    chasable a.schema.now a.dependencies.now a.t p.widths-good p.dependencies-good p.tableau-good long
 
 pub returns-then-is_empty : goal.returns-then-is_empty
 returns-then-is_empty c =

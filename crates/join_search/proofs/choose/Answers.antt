@@ -2,7 +2,7 @@
 use mathlib.Core.Path.{◌≡◌}
 use lib.ListN.{length}
 use Prim.Native.Nat.{◌/◌, ◌^◌}
-use Rattle.join_search.proofs.Turns.{left-first, left_next}
+use Rattle.tableaux.proofs.Columns.{left-first, left_next}
 use borrow.Author.Rules.{rules}
 use Rattle.join_search.proofs.Rows.{choosing-start, choosing-takes, choosing-skips, choosing-end}
 use Rattle.join_search.proofs.choose.Goals as goal

@@ -6,7 +6,7 @@ use Prim.Native.Nat.{◌/◌, ◌%◌, ◌^◌}
 use mathlib.Core.Bool.{◌||◌}
 use lib.Dec.{eqb}
 use Rattle.join_search.specs.internal.Search.{goes_at, goes}
-use Rattle.join_search.proofs.Turns.{columns-all}
+use Rattle.tableaux.proofs.Columns.{columns-all}
 use Rattle.join_search.proofs.goes.Goals as goal
 
 pub returns : goal.returns

@@ -9,7 +9,8 @@ use native.Mathlib.Nat.{sub-zero}
 use borrow.Author.Tests.{eq-eqb}
 use lib.Dec.{eqb}
 use lib.ListN.{get_or}
-use Rattle.join_search.specs.internal.Search.{same_on, some_of}
+use Rattle.join_search.specs.internal.Search.{some_of}
+use Rattle.tableaux.specs.internal.Codes.{same_on}
 use Rattle.join_search.proofs.Turns.{any-some}
 use Rattle.join_search.proofs.is_first.Goals as goal
 

@@ -7,6 +7,7 @@ use Rattle.lists.specs.Numbers.{numbers_where}
 use Rattle.theory.specs.Query.{member}
 use Rattle.query.specs.declared.JoinDependency.{JoinDependency}
 use Rattle.query.specs.View.{columns_of}
+use Rattle.tableaux.specs.internal.Codes.{same_on}
 
 -- ---- numbers in turn
 
@@ -71,10 +72,6 @@ found_of None = none
 found_of (Some row) = some row
 
 -- ---- rows that need not be tried
-
--- Whether two rows have the same codes in the columns of a set
-abbrev pub same_on : List ℕ → ℕ → ℕ → ℕ → Bool
-same_on codes set i e = every (λ c. eqb (get_or codes (8 * i + c) 0) (get_or codes (8 * e + c) 0)) (columns_of set)
 
 -- Whether row i is of the relation, and no earlier row of the relation is the same in the columns of a set
 abbrev pub is_first : List ℕ → List ℕ → ℕ → ℕ → ℕ → Bool

@@ -2,7 +2,8 @@
 -- Assumes nothing.
 use mathlib.Core.Path.{◌≡◌}
 use Prim.Native.Nat.{◌≤◌}
-use Rattle.join_step.specs.internal.Step.{codes_of, distinct_to}
+use Rattle.join_step.specs.internal.Step.{distinct_to}
+use Rattle.tableaux.specs.internal.Codes.{codes_of}
 use Rattle.join_step.proofs.without_repeats.Given as goal
 
 abbrev pub invariant-loop-i : goal.invariant-loop-i

@@ -9,17 +9,14 @@ use Rattle.query.specs.Types.{Tableau}
 use Rattle.query.specs.declared.JoinDependency.{JoinDependency}
 use Rattle.query.specs.View.{entries_of, query_of, as_query, join_of}
 use Rattle.query.specs.Rule.{good_row, no_cell, shaped_join}
-use Rattle.query.specs.internal.Code.{code_of, decoded}
+use Rattle.query.specs.internal.Code.{decoded}
+use Rattle.tableaux.specs.internal.Codes.{codes_of}
 use Rattle.joins.specs.JoinChase.{next_row}
 use Rattle.join_search.specs.internal.Search.{free, is_first}
 use Rattle.join_step.specs.declared.NextRow.{NextRow}
 use Rattle.theory.specs.Query as theory
 
 -- ---- codes and cells
-
--- The codes of some cells
-abbrev pub codes_of : List Cell → List ℕ
-codes_of cells = map (λ c. code_of c.entry) cells
 
 -- The cell of a code, blank where it is free
 abbrev pub cell_of : ℕ → Cell

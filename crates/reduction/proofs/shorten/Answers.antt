@@ -31,7 +31,8 @@ chase-chased-requires c =
     let good : good_tableau p.schema c.from_query.result ≡ true =
     ap (good_tableau p.schema) c.from_query.ensures ∙ tableau-good p.schema a.q (sized (goal.at.chase-chased-requires c).After-from_query) p.query-good
     in
-    chasable p.schema a.dependencies.now c.from_query.result p.widths p.dependencies-good good
+    let long : length c.from_query.result.relations ≡ 24 = search (mapped-length, rules) in
+    chasable p.schema a.dependencies.now c.from_query.result p.widths p.dependencies-good good long
 
 module _ (c : After-to_query-query) where
   stored-sized : SizedFor 12 c.args.q

@@ -1,5 +1,5 @@
 -- What the functions of the survivor and the replacement answer, on stored entries and queries.
-use Rattle.std.specs.Prelude.{◌≡◌, Option, None, Some, Bool, false, cond, map, ℕ, eqb, take}
+use Rattle.std.specs.Prelude.{◌≡◌, Option, None, Some, Bool, false, cond, List, map, ℕ, eqb, take}
 use Rattle.query.specs.declared.Entry.{Entry}
 use Rattle.query.specs.declared.Entry.TheVariants.{Constant, Variable}
 use Rattle.query.specs.declared.Cell.{Cell}
@@ -9,33 +9,18 @@ use Rattle.replacement.specs.declared.Replacement.{Replacement}
 use Rattle.theory.specs.Query as theory
 use Rattle.theory.specs.Chase as chasing
 
+-- Whether a variable stands in some cells
+abbrev pub stands_in : List Cell → ℕ → Bool
+stands_in cells v = theory.member v (theory.variables_of (entries_of cells))
+
 -- Whether a variable stands in the head of a query
 abbrev pub head_holds : Query → ℕ → Bool
-head_holds q v = theory.member v (theory.variables_of (entries_of (take q.arity q.head)))
-
--- Whether a cell holds a variable
-abbrev pub entry_holds : ℕ → Entry → Bool
-entry_holds v (Constant n) = false
-entry_holds v (Variable w) = eqb v w
-
-abbrev pub holds_variable : ℕ → Cell → Bool
-holds_variable v cell = entry_holds v cell.entry
-
--- Whether an entry is a variable in the head
-abbrev pub entry_in_head : (ℕ → Bool) → theory.Entry → Bool
-entry_in_head in_head (theory.Entry.constant n) = false
-entry_in_head in_head (theory.Entry.variable v) = in_head v
+head_holds q = stands_in (take q.arity q.head)
 
 -- What the answer of the survivor rule stands for
 abbrev pub resolution_of : Option Replacement → chasing.Resolution
 resolution_of None = chasing.clash
 resolution_of (Some r) = chasing.replace r.variable (entry_of r.entry)
-
--- r is the theory's resolution of two entries, for each head in which they stand as the flags say
-abbrev pub Survivor : Entry → Bool → Entry → Bool → chasing.Resolution → Type 0
-Survivor a a-in-head b b-in-head r =
-    (in_head : ℕ → Bool) → entry_in_head in_head (entry_of a) ≡ a-in-head → entry_in_head in_head (entry_of b) ≡ b-in-head
-    → r ≡ chasing.resolve in_head (entry_of a) (entry_of b)
 
 -- Entry e in place of variable v
 unfoldable pub substitute_entry : ℕ → Entry → Entry → Entry

@@ -1,4 +1,4 @@
--- `join_search::same_on` meets its contract. Assumes nothing.
+-- `tableaux::same_on` meets its contract. Assumes nothing.
 use Rattle.std.proofs.Common.{refl, rules, tests, ◌∙◌}
 use Rattle.std.proofs.lemmas.Iterator.{YieldsList-from_range}
 use Rattle.std.proofs.lemmas.Iterator.Search.{all_from_yields_List}
@@ -6,8 +6,8 @@ use Prim.Native.Nat.{◌+◌, ◌*◌, ◌/◌, ◌%◌, ◌^◌}
 use mathlib.Core.Bool.{◌||◌}
 use lib.Dec.{eqb}
 use lib.ListN.{get_or}
-use Rattle.join_search.proofs.Turns.{columns-all}
-use Rattle.join_search.proofs.same_on.Goals as goal
+use Rattle.tableaux.proofs.Columns.{columns-all}
+use Rattle.tableaux.proofs.same_on.Goals as goal
 
 pub returns : goal.returns
 returns c =
