@@ -21,7 +21,3 @@ pub unused-read : (file : List ℕ) (r : Record) → gives r ≡ read_file file 
 unused-read file r e conditions before after unused n p =
     let next : Record → Reply Record = λ r. reply (first_holding (conditions r)) r in
     unused n (sym (reply-refusal (first_holding (conditions r)) r) ∙ ap refusal_in (sym (goes_on (sym e) next)) ∙ p)
-
--- and where the file is refused nothing is touched
-pub untouched : (file : List ℕ) (conditions : Record → List Condition) (before : List ℕ) → UnusedInFile file conditions before before
-untouched file conditions before n p = refl

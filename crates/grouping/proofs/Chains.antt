@@ -112,13 +112,3 @@ module _ (key : ℕ → ℕ) (H : List ℕ) (link : ℕ → ℕ) where
             let apart : s ≡ n → ⊥ = eqb-false s n e in
             let low : s < n = omega arith in
             old s low ∙ c.links s low
-
--- one more place of a table is 0
-pub zero_more : (H : List ℕ) (b : ℕ) → b < length H → ((d : ℕ) → d < b → get_or H d 0 ≡ 0) → (d : ℕ) → d < b + 1 → get_or (set H b 0) d 0 ≡ 0
-zero_more H b h zeros d l = go (eqb d b) refl
-  where
-    go : (t : Bool) → eqb d b ≡ t → get_or (set H b 0) d 0 ≡ 0
-    go true e = let here : d ≡ b = eqb-true d b e in rw here (get_or-set_same H b 0 0 h)
-    go false e =
-        let apart : d ≡ b → ⊥ = eqb-false d b e in
-        get_or-set_other H b d 0 0 apart ∙ zeros d (omega arith)

@@ -52,10 +52,6 @@ module _ (c rest : ℕ) (h : c < 8) where
 -- ---- numbers
 
 module _ {A : Type 0} (find : ℕ → Option A) (n i : ℕ) where
-  -- What is found from number i on below n
-  abbrev pub first_from : Option A
-  first_from = first_of find i (n - i)
-
   pub first-here : i < n → first_of find i (n - i) ≡ or_else (find i) (first_of find (i + 1) (n - (i + 1)))
   unfolding first_of
   first-here h = let less : n - i ≡ suc (n - (i + 1)) = omega arith in rw (less, add-one)

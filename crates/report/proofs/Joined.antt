@@ -70,10 +70,6 @@ module _ (r : Record) (k : ℕ) (d e : List ℕ) (n : ℕ) (w : PartWritten r 0 
   pub part-size : k ≤ 8 → length e ≡ length d
   part-size h = ap (λ (l : List ℕ). length l) w.written.buffer ∙ over-length d w.text 0 (omega (arith, w.short))
 
-  -- There is room for one more place
-  pub part_room : k < 8 → n + place_room ≤ length e
-  part_room h = omega (arith, part-size (omega arith), w.short, w.written.position)
-
   -- One more place
   pub part-more : k < 8 → (e' : List ℕ) (n' : ℕ) → PartWritten r k 1 e n e' n' → PartWritten r 0 (k + 1) d 0 e' n'
   part-more h e' n' v =
