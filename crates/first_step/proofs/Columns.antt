@@ -1,29 +1,30 @@
 -- Laws of the wide rows: a column is a cell, whose code tells its entry; agreement on columns by codes; and the test of a pair by its parts.
 -- Assumes nothing.
 use mathlib.Core.Path.{◌≡◌, refl, sym, ◌∙◌, ap}
-use mathlib.Core.Bool.{Bool, true, false, cond}
+use mathlib.Core.Bool.{true, false}
 use mathlib.Core.List.{List, [], ◌∷◌}
-use Prim.Native.Nat.{ℕ, zero, suc, ◌+◌, ◌*◌, ◌/◌, ◌%◌, ◌≤◌, ◌<◌}
+use mathlib.Core.List.Memᴰ
+use Prim.Native.Nat.{ℕ, ◌+◌, ◌*◌, ◌<◌}
 use native.Mathlib.Decide.{ℕ_discrete}
 use native.Mathlib.Omega.{arith}
-use borrow.Author.Tests.{eq-eqb, ne_eqb, ltb-true, leb-true, lt-ltb}
-use lib.Dec.{eqb, ltb}
+use borrow.Author.Tests.{eq-eqb, ne_eqb, leb-true}
+use lib.Dec.{eqb}
 use lib.ListN.{take, drop, get_or, get_or-map}
 use lib.Seq.{get_or-take, get_or-drop}
 use Rattle.query.specs.declared.Entry as stored
 use Rattle.query.specs.declared.Entry.TheVariants.{Constant, Variable}
 use Rattle.query.specs.declared.Cell.{Cell}
 use Rattle.query.specs.declared.Dependency.{Dependency}
-use Rattle.query.specs.View.{entry_of, columns_from, columns_of, dependency_of}
+use Rattle.query.specs.View.{entry_of, columns_of, dependency_of}
 use Rattle.query.specs.Rule.{no_cell, good_entry, good_cell}
 use Rattle.lists.specs.Tests.{every}
 use Rattle.lists.proofs.Positions.{every-get_or-else}
 use Rattle.first_step.specs.internal.Wide.{row_at, row_in}
 use Rattle.query.specs.internal.Code.{code_of}
 use Rattle.tableaux.specs.internal.Codes.{codes_of, same_on}
-use Rattle.theory.specs.Query.{Entry, constant, column, same_entry}
+use Rattle.tableaux.proofs.Columns.{columns-range}
+use Rattle.theory.specs.Query.{◌∈◌, Entry, constant, column, same_entry}
 use Rattle.theory.specs.Chase.{agree, breaks}
-use Rattle.lists.proofs.Tests.{and_left, and_right}
 use Rattle.theory.proofs.Lists.{bool_cases}
 
 -- Column c of row i is cell 8 i + c
@@ -32,17 +33,6 @@ pub wide-column : (relation : ℕ) (cells : List Cell) (i c : ℕ) → c < 8 →
 wide-column relation cells i c h =
     get_or-map (λ (x : Cell). entry_of x.entry) (take 8 (drop (8 * i) cells)) c no_cell
     ∙ ap (λ (x : Cell). entry_of x.entry) (get_or-take 8 (drop (8 * i) cells) c no_cell h ∙ get_or-drop (8 * i) cells c no_cell)
-
--- The columns of a mask of 8 bits are below 8
-columns-low : (start n mask : ℕ) → start + n ≤ 8 → every (λ c. ltb c 8) (columns_from start n mask) ≡ true
-unfolding columns_from every
-columns-low start zero mask few = refl
-columns-low start (suc n) mask few = go (eqb (mask % 2) 1) (columns-low (suc start) n (mask / 2) (omega (arith, few)))
-  where
-    go : (b : Bool) → every (λ c. ltb c 8) (columns_from (suc start) n (mask / 2)) ≡ true
-        → every (λ c. ltb c 8) (cond b (start ∷ columns_from (suc start) n (mask / 2)) (columns_from (suc start) n (mask / 2))) ≡ true
-    go true later = rw (lt-ltb start 8 (omega (arith, few))) later
-    go false later = later
 
 -- Entries within the limits have the same code exactly when they are the same
 pub code-tells : (a b : stored.Entry) → good_entry a ≡ true → good_entry b ≡ true → same_entry (entry_of a) (entry_of b) ≡ eqb (code_of a) (code_of b)
@@ -73,15 +63,14 @@ module _ (cells : List Cell) (codes : List ℕ) (good : every good_cell cells �
       (good-read cells (8 * i + c) _ refl good) (good-read cells (8 * j + c) _ refl good))
 
   -- and rows agree on columns exactly when their codes do
-  agree-codes : (i j : ℕ) (columns : List ℕ) → every (λ c. ltb c 8) columns ≡ true
+  agree-codes : (i j : ℕ) (columns : List ℕ) → ((c : ℕ) → c ∈ columns → c < 8)
       → every (λ c. eqb (get_or codes (8 * i + c) 0) (get_or codes (8 * j + c) 0)) columns ≡ agree columns (row_at 0 cells i) (row_at 0 cells j)
   unfolding agree every
   agree-codes i j [] low = refl
-  agree-codes i j (c ∷ cs) low =
-      rw (wide-same 0 0 i j c (ltb-true c 8 (and_left (ltb c 8) (every (λ c. ltb c 8) cs) low)), agree-codes i j cs (and_right (ltb c 8) (every (λ c. ltb c 8) cs) low))
+  agree-codes i j (c ∷ cs) low = rw (wide-same 0 0 i j c (low c (Memᴰ.head refl)), agree-codes i j cs (λ d at. low d (Memᴰ.tail at)))
 
   pub agree_same : (set i j : ℕ) → same_on codes set i j ≡ agree (columns_of set) (row_at 0 cells i) (row_at 0 cells j)
-  agree_same set i j = agree-codes i j (columns_of set) (columns-low 0 8 set (omega arith))
+  agree_same set i j = agree-codes i j (columns_of set) (λ c at. (columns-range 0 8 set at).1)
 
 -- Agreement does not look at the relations
 pub agree-relations : (m n : ℕ) (cells : List Cell) (i j : ℕ) (columns : List ℕ)

@@ -23,7 +23,7 @@ use Rattle.query.specs.declared.JoinDependency.{JoinDependency}
 use Rattle.std.specs.Prelude as prelude
 use Rattle.join_search.specs.internal.Search.{free, goes_at, goes, choose, row_goes, some_goes, all_go, extend_of, first_of, some_of, is_first, found_of, Spare}
 use Rattle.tableaux.specs.internal.Codes.{same_on}
-use Rattle.join_search.proofs.Turns.{columns-range}
+use Rattle.tableaux.proofs.Columns.{columns-range}
 use Rattle.join_search.proofs.Rows.{choose-length, choose-column, goes-free, goes_same}
 
 -- ---- numbers in turn

@@ -1,7 +1,6 @@
 -- What a turn of a loop shows: over the columns of what is left of a set, and over numbers in order. Assumes nothing.
 use mathlib.Core.Path.{◌≡◌, refl, ◌∙◌, ap}
 use mathlib.Core.Bool.{Bool, true, false, cond, ◌||◌}
-use mathlib.Core.List.{◌∷◌}
 use Rattle.std.specs.List.{list_any, range_with_len}
 use mathlib.Core.Option.{Option, none, some, or_else}
 use Prim.Native.Nat.{ℕ, suc, ◌+◌, ◌-◌, ◌/◌, ◌%◌, ◌≤◌, ◌<◌}
@@ -9,23 +8,13 @@ use native.Mathlib.Numerals.{add-one}
 use native.Mathlib.Omega.{arith}
 use borrow.Author.Tests.{eq-eqb, ne_eqb}
 use lib.Dec.{eqb}
-use Rattle.theory.specs.Query.{member, ◌∈◌}
-use Rattle.theory.proofs.Lists.{bool_cases, mem-cases, not-mem-member}
+use Rattle.theory.specs.Query.{member}
+use Rattle.theory.proofs.Lists.{bool_cases, not-mem-member}
 use Rattle.query.specs.View.{columns_from}
+use Rattle.tableaux.proofs.Columns.{columns-range}
 use Rattle.join_search.specs.internal.Search.{first_of, some_of}
 
 -- ---- columns
-
--- The columns of n bits of a mask are the n from the start on
-pub columns-range : (start n mask : ℕ) {c : ℕ} → c ∈ columns_from start n mask → (start ≤ c) × (c < start + n)
-unfolding columns_from
-columns-range start Prim.Native.Nat.zero mask {c = c} at = elim at [ ]
-columns-range start (suc n) mask {c} at = go (eqb (mask % 2) 1) at (columns-range (suc start) n (mask / 2))
-  where
-    go : (t : Bool) → c ∈ cond t (start ∷ columns_from (suc start) n (mask / 2)) (columns_from (suc start) n (mask / 2))
-        → (c ∈ columns_from (suc start) n (mask / 2) → (suc start ≤ c) × (c < suc start + n)) → (start ≤ c) × (c < start + suc n)
-    go true m rest = mem-cases m (λ p. (omega arith, omega arith)) (λ l. let h = rest l in (omega (arith, h.0), omega (arith, h.1)))
-    go false m rest = let h = rest m in (omega (arith, h.0), omega (arith, h.1))
 
 module _ (c rest : ℕ) (h : c < 8) where
   one_less : 8 - c ≡ suc (8 - (c + 1))
