@@ -40,7 +40,7 @@ use Rattle.query.specs.View.{columns_from, columns_of}
 use Rattle.query.proofs.Stored.{Within}
 use Rattle.query.proofs.Codes.{code_same, code_below}
 use Rattle.join_search.specs.internal.Search.{free, free_row, goes_at, goes, choose, row_goes, some_goes, extend_of, first_of, some_of}
-use Rattle.join_search.proofs.Turns.{columns-range}
+use Rattle.tableaux.proofs.Columns.{columns-range}
 use Rattle.join_search.proofs.Rows.{goes-free, goes_same, choose-length, choose-column}
 use Rattle.join_search.proofs.Search.{some_is, is_some, goes-cases}
 

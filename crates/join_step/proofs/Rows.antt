@@ -32,7 +32,7 @@ use Rattle.query.proofs.Shape.{row_count, rows-length}
 use Rattle.query.proofs.Codes.{code_same}
 use Rattle.join_search.specs.internal.Search.{is_first, some_of}
 use Rattle.tableaux.specs.internal.Codes.{same_on}
-use Rattle.join_search.proofs.Turns.{columns-range}
+use Rattle.tableaux.proofs.Columns.{columns-range}
 use Rattle.join_search.proofs.Search.{some_is, is_some}
 use Rattle.join_step.specs.internal.Step.{with_row, distinct_to}
 use Rattle.tableaux.specs.internal.Codes.{codes_of}
