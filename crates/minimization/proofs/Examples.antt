@@ -20,8 +20,9 @@ use Rattle.theory.specs.Query.{subset}
 use Rattle.determination.specs.Determined.{FitsColumns, adds, grow_on, grow_for, closure, determined}
 use Rattle.minimization.specs.Search.{lookup, assign_to, send_entry, send_entries, send_row, try_rows, place_rows, place_query, mappable}
 use Rattle.minimization.specs.Checking.{same_row}
-use Rattle.minimization.specs.Search.{contained_on, contained, prune, reduce}
-use Rattle.minimization.specs.Examples.{Example, reduces, chases_to, compares, determines, schema, Meaning, same_query}
+use Rattle.minimization.specs.Search.{contained_on, contained}
+use Rattle.minimization.specs.Kept.{kept_after, entry_before, entries_before, row_before, insert_row, sorted, reduced}
+use Rattle.minimization.specs.Examples.{Example, reduces, keeps, chases_to, compares, determines, schema, Meaning, same_query}
 use Rattle.minimization.specs.Examples.{fits_columns, fits_schema, over_schema, holds, examples}
 use Rattle.theory.proofs.Lists.{and-three, beq-true}
 use Rattle.theory.proofs.Entries.{same_entry-eq}
@@ -30,13 +31,13 @@ use Rattle.theory.proofs.Chase.{chase-chases}
 use Rattle.minimization.proofs.Reduction.{reduction-same-size, reduction-minimal}
 use Rattle.determination.proofs.Determined.{determined-exact, determined-ascending}
 use Rattle.minimization.proofs.Search.{contained-exact, contained-false}
-use Rattle.minimization.proofs.Reduce.{reduce-reduction}
+use Rattle.minimization.proofs.Kept.{reduced-reduction}
 
 -- Every example of the table holds
 pub examples-hold : every holds examples ≡ true
 unfolding same_entry variables_of row_entries member distinct or_else bind first_passing first_pair first_found agree breaks first_broken
     survives resolve substitute step chase_on chase_for chase subset adds grow_on grow_for closure numbers_where determined lookup assign_to
-    send_entry send_entries send_row try_rows place_rows place_query mappable contained_on contained prune reduce same_lists same_row same_query
+    send_entry send_entries send_row try_rows place_rows place_query mappable contained_on contained kept_after entry_before entries_before row_before insert_row sorted same_lists same_row same_query
     every fits_columns fits_schema over_schema holds
 examples-hold = refl
 
@@ -80,18 +81,21 @@ rows_fit ds q e r at =
 pub holds-meaning : (x : Example) → holds x ≡ true → Meaning x
 unfolding holds
 holds-meaning (reduces ds q head rows count) e =
-    let heads = same_lists same_entry (reduce ds q).head head in
-    let facts = and-three (over_schema ds q && heads) (eqb (length (reduce ds q).rows) rows) (eqb (chase ds q).count count) e in
+    let heads = same_lists same_entry (reduced ds q).head head in
+    let facts = and-three (over_schema ds q && heads) (eqb (length (reduced ds q).rows) rows) (eqb (chase ds q).count count) e in
     let fit = rows_fit ds q (and_left (over_schema ds q) heads facts.0) in
-    let same : (reduce ds q).head ≡ head = same_lists-true same_entry same_entry-eq (reduce ds q).head head (and_right (over_schema ds q) heads facts.0) in
-    let size : length (reduce ds q).rows ≡ rows = eqb-true (length (reduce ds q).rows) rows facts.1 in
+    let same : (reduced ds q).head ≡ head = same_lists-true same_entry same_entry-eq (reduced ds q).head head (and_right (over_schema ds q) heads facts.0) in
+    let size : length (reduced ds q).rows ≡ rows = eqb-true (length (reduced ds q).rows) rows facts.1 in
     let number : (chase ds q).count ≡ count = eqb-true (chase ds q).count count facts.2 in
     record {
-      result = (reduce ds q, reduce-reduction ds q);
-      each = λ T r. (r.head ∙ sym (reduce-reduction ds q).head ∙ same, reduction-same-size ds q T (reduce ds q) r (reduce-reduction ds q) ∙ size);
-      least = λ U rival. rw size at (reduction-minimal schema ds q (reduce ds q) fit (reduce-reduction ds q) U rival);
+      result = (reduced ds q, reduced-reduction ds q);
+      each = λ T r. (r.head ∙ sym (reduced-reduction ds q).head ∙ same, reduction-same-size ds q T (reduced ds q) r (reduced-reduction ds q) ∙ size);
+      least = λ U rival. rw size at (reduction-minimal schema ds q (reduced ds q) fit (reduced-reduction ds q) U rival);
       counted = ((chase ds q).query, rw number at (chase-chases ds q));
     }
+holds-meaning (keeps ds q rows) e =
+    let same = same_lists same_row (reduced ds q).rows rows in
+    same_lists-true same_row same_row-eq (reduced ds q).rows rows (and_right (over_schema ds q) same e)
 holds-meaning (chases_to ds q result count) e =
     let facts = and-three (over_schema ds q) (same_query (chase ds q).query result) (eqb (chase ds q).count count) e in
     subst₂ (λ chased n. Chases ds q chased n) (same_query-true (chase ds q).query result facts.1) (eqb-true (chase ds q).count count facts.2)

@@ -3,6 +3,6 @@ pub mod Without
 pub mod Reduction
 pub mod Search
 pub mod Checking
-pub mod Reduce
+pub mod Kept
 pub mod Examples
 pub mod Theorems

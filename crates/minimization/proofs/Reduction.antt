@@ -1,4 +1,4 @@
--- Reduction: equal answers, minimality, and one pass over the rows (Chandra and Merlin, "Optimal implementation of conjunctive queries in relational
+-- Reduction: equal answers and minimality (Chandra and Merlin, "Optimal implementation of conjunctive queries in relational
 -- data bases", 1977;
 -- with functional dependencies Maier, Mendelzon and Sagiv, "Testing implications of data dependencies", 1979).
 --   1. Cores. A core mapped into some of its own rows needs as many of them as it has: otherwise, by the pigeonhole principle, one of its rows could go.
@@ -11,8 +11,7 @@
 --      R is not chased, and its constants may be any.
 -- 4. What a result keeps. It has at most as many rows as the source, and its variables and constants. A mapping that fixes the head keeps each head
 -- variable in a row.
---   5. One pass. Once a row cannot go, it cannot go later either: so trying each row once gives a core.
---   6. Losing rows one at a time leads to every result, up to the order of rows.
+--   5. Losing rows one at a time leads to every result, up to the order of rows.
 -- Assumes nothing.
 use mathlib.Core.Path.{◌≡◌, refl, sym, ◌∙◌, ap, subst, subst₂}
 use mathlib.Core.Logic.Iff
@@ -289,73 +288,7 @@ reduction-wellformed widths ds S T well result = record { rows_fit = λ r at. ch
         (row-row_entries T.rows (map_row (value_of constant f.0) found.0) (variable v) (f.1.carries.to-rows found.0 found.1)
         (Memᴰ.cast (sym fixed) (Memᴰ.map (value_of constant f.0) found.2)))
 
--- ---- 5. One pass
-
--- The query with other rows
-abbrev pub with_rows : Query → List (Row Entry) → Query
-with_rows q rows = record { head = q.head; rows = rows }
-
--- The state of one pass over the rows of q: the kept rows, then those that are still to be tried. They are rows of q, q maps to them, and no kept row can go
-pub record OnePass (q : Query) (kept rest : List (Row Entry)) : Type 0 where
-  pub rows : kept ++ rest ⊆ q.rows
-  pub receives : q.rows ≢ [] → Mapping q (with_rows q (kept ++ rest))
-  pub needed : (r : Row Entry) (at : r ∈ kept) → Mapping (with_rows q (kept ++ rest)) (with_rows q (without kept at ++ rest)) → ⊥
-
--- At the start none is kept
-pub pass-start : (q : Query) → OnePass q [] q.rows
-pass-start q = record { rows = λ r at. at; receives = mapping-self q; needed = λ r at. absurd (Memᴰ.not-nil at) }
-
--- A row without which the query can be mapped into itself goes
-pub pass-drop : (q : Query) (kept : List (Row Entry)) (r : Row Entry) (rest : List (Row Entry)) → OnePass q kept (r ∷ rest)
-    → Mapping (with_rows q (kept ++ r ∷ rest)) (with_rows q (kept ++ rest)) → OnePass q kept rest
-pass-drop q kept r rest pass f = record {
-  rows = λ s at. pass.rows s (insert-part kept r rest s at);
-  receives = λ some. mapping-compose q (with_rows q (kept ++ r ∷ rest)) (with_rows q (kept ++ rest)) (pass.receives some) f;
-  needed = λ s at g. pass.needed s at
-      (mapping-part (with_rows q (kept ++ r ∷ rest)) (with_rows q (kept ++ r ∷ rest)) (with_rows q (without kept at ++ rest))
-      (with_rows q (without kept at ++ r ∷ rest))
-      refl f.1.carries.not-never (λ t there. there) refl (insert-part (without kept at) r rest)
-      (mapping-compose (with_rows q (kept ++ r ∷ rest)) (with_rows q (kept ++ rest)) (with_rows q (without kept at ++ rest)) f g));
-}
-
--- Any other row is kept
-pub pass-keep : (q : Query) (kept : List (Row Entry)) (r : Row Entry) (rest : List (Row Entry)) → OnePass q kept (r ∷ rest)
-    → (Mapping (with_rows q (kept ++ r ∷ rest)) (with_rows q (kept ++ rest)) → ⊥) → OnePass q (kept ++ (r ∷ [])) rest
-pass-keep q kept r rest pass none = record {
-  rows = subst (λ rows. rows ⊆ q.rows) (sym (append_snoc kept r rest)) pass.rows;
-  receives = λ some. subst (λ rows. Mapping q (with_rows q rows)) (sym (append_snoc kept r rest)) (pass.receives some);
-  needed = λ s at f. cases s (without-append kept (r ∷ []) at)
-      (subst (λ rows. Mapping (with_rows q rows) (with_rows q (without (kept ++ (r ∷ [])) at ++ rest))) (append_snoc kept r rest) f);
-}
-  where
-    cases : (s : Row Entry) → {rows : List (Row Entry)}
-        → ((at : s ∈ kept) × (rows ≡ without kept at ++ (r ∷ []))) ⊎ ((at : s ∈ r ∷ []) × (rows ≡ kept ++ without (r ∷ []) at))
-        → Mapping (with_rows q (kept ++ r ∷ rest)) (with_rows q (rows ++ rest)) → ⊥
-    cases s (inl found) f =
-        pass.needed s found.0
-        (subst (λ rows. Mapping (with_rows q (kept ++ r ∷ rest)) (with_rows q rows))
-        (ap (λ rows. rows ++ rest) found.1 ∙ append_snoc (without kept found.0) r rest) f)
-    cases s (inr found) f =
-        none (subst (λ rows. Mapping (with_rows q (kept ++ r ∷ rest)) (with_rows q (rows ++ rest)))
-        (found.1 ∙ ap (λ rows. kept ++ rows) (without-singleton found.0) ∙ append-nil kept) f)
-
--- When none is left to be tried, the kept rows are a core
-pub pass-core : (q : Query) (kept : List (Row Entry)) → OnePass q kept [] → Core (with_rows q kept)
-pass-core q kept pass r at f =
-    pass.needed r at
-    (subst₂ (λ all less. Mapping (with_rows q all) (with_rows q less)) (sym (append-nil kept)) (sym (append-nil (without kept at))) f)
-
--- One pass over the rows of the chased query gives a result of reduction
-pub pass-reduction : (ds : List Dependency) (S : Query) (kept : List (Row Entry)) → OnePass (chase ds S).query kept []
-    → Reduction ds S (with_rows (chase ds S).query kept)
-pass-reduction ds S kept pass = record {
-  head = refl;
-  rows = subst (λ rows. rows ⊆ (chase ds S).query.rows) (append-nil kept) pass.rows;
-  receives = λ some. subst (λ rows. Mapping (chase ds S).query (with_rows (chase ds S).query rows)) (append-nil kept) (pass.receives some);
-  core = pass-core (chase ds S).query kept pass;
-}
-
--- ---- 6. Losing rows one at a time
+-- ---- 5. Losing rows one at a time
 
 -- The order of rows does not matter to a result
 pub reduction-reordered : (ds : List Dependency) (S T U : Query) → Reordered T U → Reduction ds S T → Reduction ds S U

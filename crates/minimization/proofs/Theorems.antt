@@ -16,7 +16,7 @@ use Rattle.minimization.proofs.Reduction.{reduction-same-size}
 use Rattle.minimization.proofs.Reduction.{reduction-mapping, reduction-never, reduction-wellformed, reduction-length, reduction-reordered}
 use Rattle.minimization.proofs.Reduction.{shrinks-reduction, reduction-shrinks}
 use Rattle.minimization.proofs.Search.{mappable-exact, contained-exact, contained-false, both_below}
-use Rattle.minimization.proofs.Reduce.{reduce-reduction}
+use Rattle.minimization.proofs.Kept.{reduced-reduction}
 use Rattle.minimization.proofs.Examples.{examples-meaning}
 
 -- ---- containment
@@ -59,10 +59,10 @@ chased-counterexample-over = counterexample-over
 -- ---- reduction
 
 pub result-exists : reduction.ResultExists
-result-exists ds S = (_, reduce-reduction ds S)
+result-exists ds S = (_, reduced-reduction ds S)
 
-pub reduce-computes : reduction.ReduceComputes
-reduce-computes = reduce-reduction
+pub reduced-is-result : reduction.ReducedIsResult
+reduced-is-result = reduced-reduction
 
 pub results-exactly : reduction.ResultsExactly
 results-exactly ds S T = (

@@ -10,13 +10,16 @@ use Rattle.theory.specs.Chase.{Chases, chase}
 use Rattle.theory.specs.Containment.{Contained, Counterexample}
 use Rattle.minimization.specs.Reduction.{Reduction, Rival}
 use Rattle.determination.specs.Determined.{Determined, Increasing, determined}
-use Rattle.minimization.specs.Search.{contained, reduce}
+use Rattle.minimization.specs.Search.{contained}
+use Rattle.minimization.specs.Kept.{reduced}
 use Rattle.minimization.specs.Checking.{same_row}
 
 -- An example: what a call with these arguments gives
 pub data Example : Type 0 where
   -- under these dependencies the query reduces to one with this head and so many rows, after so many replacements. Never has 0 rows
   reduces : List Dependency → Query → List Entry → ℕ → ℕ → Example
+  -- under these dependencies the result of the query that is given has these rows, in this order
+  keeps : List Dependency → Query → List (Row Entry) → Example
   -- under these dependencies the chase of the first query ends in the second, row by row, after so many replacements
   chases_to : List Dependency → Query → Query → ℕ → Example
   -- under these dependencies the first query is contained in the second, or it is not
@@ -48,6 +51,7 @@ pub record Counts (ds : List Dependency) (relation : ℕ) (left : List ℕ) (col
 -- What an example says, over all databases. Where the first query is not contained in the second, a database shows it
 abbrev pub Meaning : Example → Type 0
 Meaning (reduces ds q head rows count) = Reduces ds q head rows count
+Meaning (keeps ds q rows) = (reduced ds q).rows ≡ rows
 Meaning (chases_to ds q result count) = Chases ds q result count
 Meaning (compares ds p q true) = Contained (Legal schema ds) p q
 Meaning (compares ds p q false) = (D : Database) × (t : List ℕ) × Counterexample (Legal schema ds) p q D t
@@ -75,7 +79,8 @@ over_schema ds q = every (fits_columns schema) ds && every (fits_schema schema) 
 -- Whether an example is over the schema and as the definitions compute it
 unfoldable pub holds : Example → Bool
 holds (reduces ds q head rows count) =
-    over_schema ds q && same_lists same_entry (reduce ds q).head head && eqb (length (reduce ds q).rows) rows && eqb (chase ds q).count count
+    over_schema ds q && same_lists same_entry (reduced ds q).head head && eqb (length (reduced ds q).rows) rows && eqb (chase ds q).count count
+holds (keeps ds q rows) = over_schema ds q && same_lists same_row (reduced ds q).rows rows
 holds (chases_to ds q result count) = over_schema ds q && same_query (chase ds q).query result && eqb (chase ds q).count count
 holds (compares ds p q answer) = over_schema ds p && over_schema ds q && beq (contained ds p q) answer
 holds (determines ds relation left columns) =
@@ -227,6 +232,35 @@ search_order =
     ∷ reduces (from 1 1 2 ∷ from 1 0 1 ∷ []) (query [] (S (v 0) (v 1) (k 3) ∷ S (v 0) (v 2) (k 4) ∷ S (v 5) (v 6) (k 7) ∷ S (v 5) (v 8) (k 7) ∷ [])) [] 0 1
     ∷ []
 
+-- The rows that are kept and their order, where results differ in no other way
+abbrev pub kept_rows : List Example
+kept_rows =
+    -- the last of two that can stand for each other goes, whichever comes first in the order
+    keeps [] (query [] (R (v 0) (v 1) ∷ R (v 2) (v 3) ∷ [])) (R (v 0) (v 1) ∷ [])
+    ∷ keeps [] (query [] (R (v 2) (v 3) ∷ R (v 0) (v 1) ∷ [])) (R (v 2) (v 3) ∷ [])
+    -- of four rows that can, the first stays
+    ∷ keeps [] (query [] (R (v 4) (v 5) ∷ R (v 0) (v 1) ∷ R (v 6) (v 7) ∷ R (v 2) (v 3) ∷ [])) (R (v 4) (v 5) ∷ [])
+    -- a row may go together with others of its own: R(v1,v2) goes once R(v2,v3) has gone
+    ∷ keeps [] (query (v 0 ∷ []) (R (v 0) (v 0) ∷ R (v 0) (v 1) ∷ R (v 1) (v 2) ∷ R (v 2) (v 3) ∷ [])) (R (v 0) (v 0) ∷ [])
+    -- the last of the rows that repeat each other go
+    ∷ keeps [] (query [] (R (v 1) (k 2) ∷ B (v 0) (v 1) ∷ R (v 1) (k 2) ∷ [])) (R (v 1) (k 2) ∷ B (v 0) (v 1) ∷ [])
+    -- by relation first, whatever the entries
+    ∷ keeps [] (query (v 0 ∷ []) (B (k 1) (v 0) ∷ S (v 0) (v 1) (v 2) ∷ R (v 0) (v 1) ∷ [])) (R (v 0) (v 1) ∷ S (v 0) (v 1) (v 2) ∷ B (k 1) (v 0) ∷ [])
+    -- constants before variables, whatever their numbers
+    ∷ keeps [] (query (v 0 ∷ []) (R (v 0) (k 4) ∷ R (k 4) (v 0) ∷ [])) (R (k 4) (v 0) ∷ R (v 0) (k 4) ∷ [])
+    -- each by number
+    ∷ keeps [] (query (v 0 ∷ []) (R (v 0) (k 10) ∷ R (v 0) (k 9) ∷ [])) (R (v 0) (k 9) ∷ R (v 0) (k 10) ∷ [])
+    ∷ keeps [] (query (v 10 ∷ v 9 ∷ []) (R (v 10) (k 4) ∷ R (v 9) (k 4) ∷ [])) (R (v 9) (k 4) ∷ R (v 10) (k 4) ∷ [])
+    -- from the left, and on where entries are equal
+    ∷ keeps [] (query (v 0 ∷ []) (S (v 0) (k 2) (k 1) ∷ S (v 0) (k 1) (k 2) ∷ S (v 0) (k 1) (k 1) ∷ []))
+    (S (v 0) (k 1) (k 1) ∷ S (v 0) (k 1) (k 2) ∷ S (v 0) (k 2) (k 1) ∷ [])
+    -- as the chase leaves them: v1 has become 7 before rows are tried and sorted
+    ∷ keeps R·a→b (query (v 0 ∷ []) (R (v 0) (v 1) ∷ R (v 0) (k 7) ∷ B (v 1) (v 0) ∷ B (k 8) (v 0) ∷ []))
+    (R (v 0) (k 7) ∷ B (k 7) (v 0) ∷ B (k 8) (v 0) ∷ [])
+    -- never has none
+    ∷ keeps R·a→b (query [] (R (v 0) (k 3) ∷ R (v 0) (k 4) ∷ [])) []
+    ∷ []
+
 -- Cases that are easily passed over
 abbrev pub edge_cases : List Example
 edge_cases =
@@ -255,7 +289,7 @@ edge_cases =
 
 -- The whole table
 abbrev pub examples : List Example
-examples = reference ++ worked ++ further ++ survivors ++ search_order ++ edge_cases
+examples = reference ++ worked ++ further ++ survivors ++ search_order ++ kept_rows ++ edge_cases
 
 -- Each example of the table means what it says
 abbrev pub ExamplesMean : Type 0

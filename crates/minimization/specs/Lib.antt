@@ -2,6 +2,7 @@
 -- a file of statements to a topic.
 pub mod Reduction
 pub mod Search
+pub mod Kept
 pub mod Checking
 pub mod Examples
 pub mod ContainmentTheorems

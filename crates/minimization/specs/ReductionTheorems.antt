@@ -1,19 +1,19 @@
--- What is proved of the results of reduction, for each choice of the rows that stay. Each statement is proved in `proofs/Theorems`.
+-- What is proved of the results of reduction: of the one that is given, and of every one, whichever rows stay in which order. Each statement is proved in `proofs/Theorems`.
 use Rattle.std.specs.Prelude.{◌≡◌, ◌≢◌, ◌↔◌, List, [], ℕ, ◌≤◌, length}
 use Rattle.theory.specs.Query.{Entry, Row, Query, RowsFit, WellFormed, ◌∈◌, without}
 use Rattle.theory.specs.Database.{Database, Dependency, Obeys}
 use Rattle.theory.specs.Answer.{Answer, Mapping}
 use Rattle.theory.specs.Chase.{chase}
 use Rattle.minimization.specs.Reduction.{Reduction, Shrinks, Reordered, Rival, Minimal}
-use Rattle.minimization.specs.Search.{reduce}
+use Rattle.minimization.specs.Kept.{reduced}
 
 -- Every query has a result
 abbrev pub ResultExists : Type 0
 ResultExists = (ds : List Dependency) (S : Query) → (T : Query) × Reduction ds S T
 
--- `reduce` computes one
-abbrev pub ReduceComputes : Type 0
-ReduceComputes = (ds : List Dependency) (S : Query) → Reduction ds S (reduce ds S)
+-- `reduced` is one
+abbrev pub ReducedIsResult : Type 0
+ReducedIsResult = (ds : List Dependency) (S : Query) → Reduction ds S (reduced ds S)
 
 -- The results are what the chased query comes to by losing rows one at a time, in any order of rows
 abbrev pub ResultsExactly : Type 0

@@ -68,15 +68,3 @@ contained_on (r ∷ rs) chased q = mappable q chased
 -- Whether p is contained in q under the dependencies
 unfoldable pub contained : List Dependency → Query → Query → Bool
 contained ds p q = contained_on (chase ds p).query.rows (chase ds p).query q
-
--- The rows that stay after one pass: the kept ones, and of the rest each that the query cannot be mapped into itself without
-unfoldable pub prune : List Entry → List (Row Entry) → List (Row Entry) → List (Row Entry)
-prune head kept [] = kept
-prune head kept (r ∷ rest) =
-    let shorter = prune head kept rest in
-    let longer = prune head (kept ++ (r ∷ [])) rest in
-    cond (mappable (record { head = head; rows = kept ++ r ∷ rest }) (record { head = head; rows = kept ++ rest })) shorter longer
-
--- A result of reduction: the chased query, pruned
-unfoldable pub reduce : List Dependency → Query → Query
-reduce ds q = record { head = (chase ds q).query.head; rows = prune (chase ds q).query.head [] (chase ds q).query.rows }
