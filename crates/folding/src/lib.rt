@@ -1,5 +1,5 @@
-// Mappings of a stored query into some of its own rows (SPECIFICATION, Reduction): the rows without which it can be mapped into the others go. The candidates,
-// the table and the links of the search are made once; a trial only leaves rows out. Masks have bit d for row d.
+// Mappings of a stored query into some of its own rows (SPECIFICATION, Reduction): the rows without which it can be mapped into the others go, each tried
+// once, from the last to the first. The candidates, the table and the links of the search are made once; a trial only leaves rows out. Masks have bit d for row d.
 #![tactic(auto)]
 
 ghost use Rattle.std.specs.Prelude.{◌≡◌, true, List, ℕ, ◌^◌, ◌≤◌, ◌<◌, length};
@@ -91,7 +91,7 @@ fn tried(
     left
 }
 
-// The rows that are kept. Repeated rows go first, then each row is tried once, from the first to the last.
+// The rows that are kept. Those that repeat earlier ones go at once, as they would in their turn.
 pub fn kept(q: Query) -> u32
     requires { Readable q }
     ensures { (schema : List ℕ) → Narrow schema → good_query schema q ≡ true → IsKept schema q result }
@@ -108,7 +108,7 @@ pub fn kept(q: Query) -> u32
     let links = all_links(&domain, &pairs, size + 1);
     let mut left = distinct(&to, offered, size);
     // Kept as it is: i is a row's number and indexes nothing; a `fold` would have to say of its closure that the mask stays below 2 to the size.
-    for i in 0..size {
+    for i in (0..size).rev() {
         left = tried(&domain, &pairs, &links, size, left, i);
     }
     left

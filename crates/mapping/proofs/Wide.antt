@@ -136,30 +136,47 @@ module _ (source target : ℕ → Entry) (from to named offered : List ℕ) (siz
               (lands-together r q (omega arith) (omega arith));
         }
 
-  -- Images of rows that repeat no earlier ones, each with a property, and the head's are a solution
-  pub picked-solution : (P : ℕ → Type 0) (f : ℕ → Entry) → ((i : ℕ) → i < 8 → value_of constant f (source (96 + i)) ≡ target (192 + i))
+  -- Images of rows, each with a property, and the head's are a solution: of the rows that are the same as an image, the first is taken
+  pub picked-solution : (P Q : ℕ → Type 0) → ((d : ℕ) → d < count → Q d → P (first-like to offered d).at) → (f : ℕ → Entry)
+      → ((i : ℕ) → i < 8 → value_of constant f (source (96 + i)) ≡ target (192 + i))
       → ((r : ℕ) → r < size → (d : ℕ) × (d < count) × (get_or named r 0 ≡ get_or offered d 0)
-      × ((i : ℕ) → i < 8 → value_of constant f (source (8 * r + i)) ≡ target (8 * d + i)) × (Repeats to offered d → ⊥) × P d)
+      × ((i : ℕ) → i < 8 → value_of constant f (source (8 * r + i)) ≡ target (8 * d + i)) × Q d)
       → (choice : ℕ → ℕ) × Solution (size + 1) domain table choice × ((r : ℕ) → r < size → P (choice r))
-  picked-solution P f head rows = (choice, lands-solution f choice lands, λ r h. (picked r h).4)
+  picked-solution P Q first f head rows = (choice, lands-solution f choice lands, λ r h. (picked r h).4)
     where
-      pick : (r : ℕ) → Dec (r < size) → ℕ
-      pick r (yes h) = (rows r h).0
-      pick r (no h) = 0
-
-      choice : ℕ → ℕ
-      choice r = pick r (dec_lt r size)
-
       body : (r d : ℕ) → Type 0
       body r d =
           (d < count) × (get_or named r 0 ≡ get_or offered d 0) × ((i : ℕ) → i < 8 → value_of constant f (source (8 * r + i)) ≡ target (8 * d + i))
           × (Repeats to offered d → ⊥) × P d
 
+      image : (r : ℕ) → r < size → (d : ℕ) × body r d
+      image r h =
+          let w = rows r h in
+          let x = first-like to offered w.0 in
+          let within : x.at ≤ w.0 = x.within in
+          let below : w.0 < count = w.1 in (
+            x.at,
+            (
+              omega arith,
+              w.2 ∙ sym x.relation,
+              (λ i k. w.3 i k ∙ sym (to_same (8 * x.at + i) (8 * w.0 + i) (omega arith) (omega arith) (x.same i k))),
+              x.fresh,
+              first w.0 w.1 w.4,
+            ),
+          )
+
+      pick : (r : ℕ) → Dec (r < size) → ℕ
+      pick r (yes h) = (image r h).0
+      pick r (no h) = 0
+
+      choice : ℕ → ℕ
+      choice r = pick r (dec_lt r size)
+
       picked : (r : ℕ) → r < size → body r (choice r)
       picked r h = go (dec_lt r size)
         where
           go : (t : Dec (r < size)) → body r (pick r t)
-          go (yes l) = let w = rows r l in (w.1, w.2, w.3, w.4, w.5)
+          go (yes l) = (image r l).1
           go (no l) = absurd (l h)
 
       last : choice size ≡ 0
@@ -192,24 +209,13 @@ module _ (source target : ℕ → Entry) (from to named offered : List ℕ) (siz
                 (row-cases size r h);
           }
 
-  -- So is a mapping: of the rows that are the same as the image of a row, the first is taken
+  -- So is a mapping
   pub wide-solution : (f : ℕ → Entry) → Wide 192 source target named offered size count f → (choice : ℕ → ℕ) × Solution (size + 1) domain table choice
-  wide-solution f wide = let s = picked-solution (λ d. Unit {0}) f wide.head rows in (s.0, s.1)
-    where
-      rows : (r : ℕ) → r < size → (d : ℕ) × (d < count) × (get_or named r 0 ≡ get_or offered d 0)
-          × ((i : ℕ) → i < 8 → value_of constant f (source (8 * r + i)) ≡ target (8 * d + i)) × (Repeats to offered d → ⊥) × Unit {0}
-      rows r h =
-          let w = wide.rows r h in
-          let x = first-like to offered w.0 in
-          let within : x.at ≤ w.0 = x.within in
-          let below : w.0 < count = w.1 in (
-            x.at,
-            omega arith,
-            w.2 ∙ sym x.relation,
-            (λ i k. w.3 i k ∙ sym (to_same (8 * x.at + i) (8 * w.0 + i) (omega arith) (omega arith) (x.same i k))),
-            x.fresh,
-            tt,
-          )
+  wide-solution f wide =
+      let s =
+      picked-solution (λ d. Unit {0}) (λ d. Unit {0}) (λ d h u. tt) f wide.head
+      (λ r h. let w = wide.rows r h in (w.0, w.1, w.2, w.3, tt)) in
+      (s.0, s.1)
 
   -- ---- 4. a solution gives an assignment that is a mapping
 

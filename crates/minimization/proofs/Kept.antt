@@ -5,9 +5,12 @@ use mathlib.Core.Logic.{◌≢◌}
 use mathlib.Core.Bool.{Bool, true, false, cond}
 use mathlib.Core.List.Memᴰ
 use mathlib.Core.List.{List, [], ◌∷◌, ◌++◌}
-use Prim.Native.Nat.{ℕ, suc}
-use lib.ListN.{length}
+use Prim.Native.Nat.{ℕ, suc, ◌+◌, ◌<◌}
+use native.Mathlib.Numerals.{add-one}
+use lib.ListN.{length, get_or, take, drop}
 use lib.Seq.{append_snoc}
+use Rattle.std.proofs.lemmas.List.{drop_more}
+use Rattle.std.proofs.Math.Seq.{take-suc}
 use Rattle.theory.specs.Query.{Entry, Row, Query, ◌∈◌, without}
 use Rattle.theory.specs.Database.{Dependency}
 use Rattle.theory.specs.Answer.{Mapping}
@@ -74,6 +77,21 @@ kept-after before q (r ∷ rows) some f =
         → Keeps before q (r ∷ rows) (cond b later (r ∷ later))
     go true can keeps = goes before q r rows later some keeps ((mappable-exact q (with_rows q (before ++ later))).0 can)
     go false cannot keeps = stays before q r rows later some keeps (mappable-false q (with_rows q (before ++ later)) cannot)
+
+-- A query that can be mapped into rows can be mapped into what is kept of them
+pub kept-receives : (before : List (Row Entry)) (q : Query) (rows : List (Row Entry)) → q.rows ≢ [] → Mapping q (with_rows q (before ++ rows))
+    → Mapping q (with_rows q (before ++ kept_after before q rows))
+kept-receives before q rows some f = (kept-after before q rows some f).receives
+
+-- Row i is tried after those that follow it
+pub kept-step : (q : Query) (i : ℕ) (z : Row Entry) (later : List (Row Entry)) → i < length q.rows
+    → kept_after (take (i + 1) q.rows) q (drop (i + 1) q.rows) ≡ later
+    → kept_after (take i q.rows) q (drop i q.rows) ≡ cond (mappable q (with_rows q (take i q.rows ++ later))) later (get_or q.rows i z ∷ later)
+unfolding kept_after
+kept-step q i z later h same =
+    ap (kept_after (take i q.rows) q) (drop_more q.rows i z h)
+    ∙ ap (λ after. cond (mappable q (with_rows q (take i q.rows ++ after))) after (get_or q.rows i z ∷ after))
+    (ap (λ before. kept_after before q (drop (i + 1) q.rows)) (sym (take-suc q.rows i z h) ∙ ap (λ k. take k q.rows) (sym (add-one i))) ∙ same)
 
 -- Of a query with rows
 kept-keeps : (q : Query) → q.rows ≢ [] → Keeps [] q q.rows (kept q)

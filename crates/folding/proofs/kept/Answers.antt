@@ -1,20 +1,20 @@
 -- `folding::kept` keeps the rows that are needed: the candidates and the table are made, repeats go, and each row is tried. The loop's invariant is that of
 -- `Keeping`, whatever the rows are. Assumes nothing.
-use mathlib.Core.Path.{◌≡◌, sym, subst}
+use mathlib.Core.Path.{◌≡◌, refl, sym, subst}
 use mathlib.Core.Logic.{⊎_elim}
-use Prim.Native.Nat.{ℕ, ◌^◌, ◌≤◌, ◌<◌}
+use Prim.Native.Nat.{ℕ, ◌+◌, ◌-◌, ◌^◌, ◌≤◌, ◌<◌}
+use native.Mathlib.Omega.{arith}
 use lib.ListN.{length}
 use borrow.Author.Rules.{rules}
 use Rattle.lists.proofs.Loops.{mapped-length}
-use Rattle.query.specs.Types.{Query}
+use Rattle.query.specs.Types.{Query, Tableau}
 use Rattle.query.specs.View.{as_query}
 use Rattle.query.proofs.Good.{good-query}
 use Rattle.query.proofs.Shape.{SizedFor}
-use Rattle.candidates.specs.internal.Candidates.{Laid}
+use Rattle.candidates.specs.internal.Candidates.{Laid, Marks, Repeats}
 use Rattle.mapping.proofs.Results.{line_code}
 use Rattle.tableaux.specs.internal.Tableaux.{tableau_of}
-use Rattle.folding.proofs.Keeping.{Keeping, keeping-next}
-use Rattle.folding.proofs.Theory.{Made, make, kept-start, kept-end}
+use Rattle.folding.proofs.Theory.{Made, make, Trying, trying-start, trying-next, trying-end}
 use Rattle.folding.specs.internal.Kept.{Readable}
 use Rattle.folding.proofs.kept.Goals as goal
 use Rattle.folding.proofs.kept.Goals.{After-codes_of-to, After-table-pairs}
@@ -58,26 +58,34 @@ distinct-left-requires c = (to-long (goal.at.distinct-left-requires c).After-cod
 pub tried-left-requires : goal.tried-left-requires
 tried-left-requires c = (few c.args.q c.requires, search rules, c.loop-i.invariant.1)
 
+pub loop-i-init : goal.loop-i-init
+loop-i-init c =
+    (
+      search rules,
+      c.distinct-left.ensures.0,
+      trying-start c.domains-domain.result c.table-pairs.result c.args.q.size c.distinct-left.result,
+    )
+
 pub loop-i-preserved : goal.loop-i-preserved
 loop-i-preserved c =
-    let l = c.loop-i in (
+    let l = c.loop-i in
+    let i = l.i - 1 in
+    let more : 0 < l.i = c.loop-i-test.true in
+    let inside : l.i ≤ c.args.q.size = l.invariant.0 in
+    let next : l.i ≡ i + 1 = omega arith in (
       search rules,
       ⊎_elim (λ w. subst (λ (m : ℕ). m < 2 ^ c.args.q.size) (sym w.0) l.invariant.1) (λ w. w.0.0) c.tried-left.ensures,
-      λ target offered state. keeping-next (l.invariant.2 target offered state) c.tried-left.result c.tried-left.ensures,
+      trying-next c.domains-domain.result c.table-pairs.result c.args.q.size c.distinct-left.result l.left i c.tried-left.result (omega arith)
+      (subst (Trying c.domains-domain.result c.table-pairs.result c.args.q.size c.distinct-left.result l.left) next l.invariant.2) c.tried-left.ensures,
     )
 
 pub returns : goal.returns
 returns c schema narrow good =
-    let q = c.args.q in
-    let t = c.from_query-target in
     let l = c.loop-i in
-    let all = made (goal.at.returns c).After-table-pairs in
-    let from = c.codes_of-from.result in
-    let to = c.codes_of-to.result in
-    let domain = c.domains-domain.result in
-    let pairs = c.table-pairs.result in
-    -- the loop starts so
-    let started : Keeping domain pairs to (tableau_of q).relations q.size c.distinct-left.result 0 =
-    kept-start q t.result t.ensures from to domain pairs all c.requires c.distinct-left.result c.distinct-left.ensures
-    in
-    kept-end q from to domain pairs all schema narrow good l.left l.i c.loop-i-test.false (l.invariant.2 _ _ started)
+    let t = c.from_query-target in
+    let none : l.i ≡ 0 = let z : l.i ≤ 0 = c.loop-i-test.false in omega arith in
+    trying-end c.domains-domain.result c.table-pairs.result c.args.q.size c.distinct-left.result l.left
+    (subst (Trying c.domains-domain.result c.table-pairs.result c.args.q.size c.distinct-left.result l.left) none l.invariant.2)
+    c.args.q c.codes_of-from.result c.codes_of-to.result (made (goal.at.returns c).After-table-pairs) refl
+    (subst (λ (t : Tableau). Marks c.args.q.size c.distinct-left.result (λ d. Repeats c.codes_of-to.result t.relations d → ⊥)) t.ensures c.distinct-left.ensures)
+    schema narrow good

@@ -1,10 +1,8 @@
--- `folding::kept` keeps the rows that are needed: the candidates and the table are made, repeats go, and each row is tried. The loop's invariant is that of
--- `Keeping`, whatever the rows are. Assumes nothing.
-use mathlib.Core.List.{List}
+-- `folding::kept` keeps the rows that are to be kept: the candidates and the table are made, repeats go, and each row is tried. The loop's invariant is that of
+-- `Theory`, whichever query the candidates are of. Assumes nothing.
 use Prim.Native.Nat.{ℕ, ◌^◌, ◌≤◌, ◌<◌}
-use Rattle.folding.proofs.Keeping.{Keeping}
+use Rattle.folding.proofs.Theory.{Trying}
 use Rattle.folding.proofs.kept.Given as goal
 
 abbrev pub invariant-loop-i : goal.invariant-loop-i
-invariant-loop-i l = (l.i ≤ l.size) × (l.left < 2 ^ l.size)
-    × ((target offered : List ℕ) → Keeping l.domain l.pairs target offered l.size l.initial.left 0 → Keeping l.domain l.pairs target offered l.size l.left l.i)
+invariant-loop-i l = (l.i ≤ l.size) × (l.left < 2 ^ l.size) × Trying l.domain l.pairs l.size l.initial.left l.left l.i
