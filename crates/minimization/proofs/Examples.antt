@@ -37,7 +37,7 @@ use Rattle.minimization.proofs.Kept.{reduced-reduction}
 pub examples-hold : every holds examples ≡ true
 unfolding same_entry variables_of row_entries member distinct or_else bind first_passing first_pair first_found agree breaks first_broken
     survives resolve substitute step chase_on chase_for chase subset adds grow_on grow_for closure numbers_where determined lookup assign_to
-    send_entry send_entries send_row try_rows place_rows place_query mappable contained_on contained kept_after entry_before entries_before row_before insert_row sorted same_lists same_row same_query
+    send_entry send_entries send_row try_rows place_rows place_query mappable contained_on contained kept_after entries_before insert_row sorted same_lists same_row same_query
     every fits_columns fits_schema over_schema holds
 examples-hold = refl
 

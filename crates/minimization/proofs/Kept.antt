@@ -20,7 +20,7 @@ use Rattle.minimization.specs.Search.{mappable}
 use Rattle.minimization.specs.Kept.{kept_after, kept, row_before, insert_row, sorted, core, reduced}
 use Rattle.theory.proofs.Lists.{list_cases}
 use Rattle.theory.proofs.Members.{◌⊆◌, cons-part, insert-part}
-use Rattle.theory.proofs.Carry.{mapping-compose, mapping-self, mapping-part}
+use Rattle.theory.proofs.Carry.{mapping-compose, mapping-self, mapping-part, mapping-target}
 use Rattle.minimization.proofs.Reduction.{reduction-reordered}
 use Rattle.minimization.proofs.Search.{mappable-exact, mappable-false}
 
@@ -167,6 +167,9 @@ sorted-rows (r ∷ rows) =
     let more = insert-row r (sorted rows) in
     (λ s at. more.1 s (cons-part r later.0 s at), λ s at. cons-part r later.1 s (more.0 s at), more.2 ∙ ap suc later.2)
 
+pub sorted-length : (rows : List (Row Entry)) → length (sorted rows) ≡ length rows
+sorted-length rows = (sorted-rows rows).2
+
 -- ---- 3. the result
 
 -- The result that is given is a result of reduction
@@ -175,3 +178,7 @@ reduced-reduction ds S =
     let q = (chase ds S).query in
     let same = sorted-rows (kept q) in
     reduction-reordered ds S (with_rows q (kept q)) (reduced ds S) (record { head = refl; into = same.0; back = same.1; size = same.2 }) (kept-reduction ds S)
+
+-- Of a query with rows some are kept
+pub kept-some : (q : Query) → q.rows ≢ [] → kept q ≢ []
+kept-some q some = mapping-target q (with_rows q (kept q)) (kept-keeps q some).receives

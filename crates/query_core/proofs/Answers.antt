@@ -1,8 +1,14 @@
--- A query without the rows that it can do without has the answers of the query, on every database. It is a result of reduction under no dependencies.
+-- The core of a query has the answers of the query, on every database. It is a result of reduction under no dependencies.
 -- Assumes nothing.
-use Rattle.std.specs.Prelude.{◌≡◌, ℕ, ◌↔◌, List, []}
+use Rattle.std.specs.Prelude.{◌≡◌, ℕ, ◌<◌, ◌↔◌, true, List, [], length}
 use mathlib.Core.Path.{refl, sym, ap, subst, ◌∙◌}
 use mathlib.Core.List.Memᴰ
+use native.Mathlib.Decide.{dec_lt}
+use native.Mathlib.Omega.{arith}
+use Rattle.lists.proofs.Positions.{length_none}
+use Rattle.query.specs.Rule.{good_query}
+use Rattle.query.proofs.Good.{good-query}
+use Rattle.query.proofs.Shape.{Sized, row_count}
 use Rattle.query.specs.Types.{Query}
 use Rattle.query.specs.View.{query_of}
 use Rattle.theory.specs.Query as theory
@@ -12,33 +18,55 @@ use Rattle.theory.specs.Answer.{Answer, Mapping}
 use Rattle.theory.specs.Chase.{chase, chase_for, chase_on, step, first_broken, first_found}
 use Rattle.minimization.specs.Reduction.{Reduction}
 use Rattle.minimization.proofs.Reduction.{reduction-answers, reduction-wellformed}
+use Rattle.minimization.specs.Kept.{core, sorted}
+use Rattle.minimization.proofs.Kept.{reduced-reduction, kept-some}
+use Rattle.folding.specs.internal.Kept.{marked, IsKept}
 use Rattle.query_core.specs.internal.CoreOf.{IsCoreOf}
+use Rattle.query_core.specs.internal.Rows.{HasRows}
 
 -- Without dependencies the chase rests at once
 chase-nothing : (q : theory.Query) → (chase [] q).query ≡ q
 unfolding chase chase_for chase_on step first_broken first_found
 chase-nothing q = refl
 
-core-reduction : (schema : List ℕ) (q r : Query) → IsCoreOf schema q r → Reduction [] (query_of schema q) (query_of schema r)
-core-reduction schema q r p =
-    let is : query_of schema q ≡ (chase [] (query_of schema q)).query = sym (chase-nothing (query_of schema q)) in
-    record {
-      head = p.head ∙ ap (λ (x : theory.Query). x.head) is;
-      rows = λ row at. subst (λ (x : theory.Query). row ∈ x.rows) is (p.rows row at);
-      receives =
-          λ some-rows.
-          subst (λ (x : theory.Query). Mapping x (query_of schema r)) is
-          (p.receives (λ none_left. some-rows (sym (ap (λ (x : theory.Query). x.rows) is) ∙ none_left)));
-      core = p.core;
-    }
+core-reduction : (q : theory.Query) → Reduction [] q (core q)
+core-reduction q = subst (λ (x : theory.Query). Reduction [] q (core x)) (chase-nothing q) (reduced-reduction [] q)
+
+-- ---- the core of a stored query
+
+-- Of a query with rows some are kept
+pub some-kept : (schema : List ℕ) (q : Query) (left : ℕ) → good_query schema q ≡ true → Sized q → IsKept schema q left
+    → 0 < q.size → 0 < length (marked left (query_of schema q).rows)
+some-kept schema q left good sized is some = go (dec_lt 0 (length (marked left (query_of schema q).rows)))
+  where
+    count : length (query_of schema q).rows ≡ q.size
+    count = row_count schema q (omega (arith, sized.relations, (good-query 12 schema q good).size))
+
+    go : Dec (0 < length (marked left (query_of schema q).rows)) → 0 < length (marked left (query_of schema q).rows)
+    go (yes h) = h
+    go (no h) =
+        absurd
+        (kept-some (query_of schema q) (λ none. let z : length (query_of schema q).rows ≡ 0 = ap length none in omega (arith, count))
+        (sym is ∙ length_none (marked left (query_of schema q).rows) (omega arith)))
+
+-- With the rows that are kept, in their order, a query is its core
+pub core-end : (schema : List ℕ) (q : Query) (left : ℕ) → IsKept schema q left → (r : Query) → HasRows schema q left r → IsCoreOf schema q r
+core-end schema q left is r has = record {
+  good = has.good;
+  same-arity = has.same-arity;
+  view = λ j. record { head = has.head j; rows = (has.rows ∙ ap sorted is) j };
+}
 
 module _ (schema : List ℕ) (q r : Query) (p : IsCoreOf schema q r) where
   -- The answers are the same
   pub core-answers : (D : Database) (t : List ℕ) → Answer D (query_of schema q) t ↔ Answer D (query_of schema r) t
   core-answers D t =
-      reduction-answers [] (query_of schema q) (query_of schema r) (core-reduction schema q r p) D (λ d at. absurd (Memᴰ.not-nil at)) t
+      subst (λ (x : theory.Query). Answer D (query_of schema q) t ↔ Answer D x t) (sym p.view)
+      (reduction-answers [] (query_of schema q) (core (query_of schema q)) (core-reduction (query_of schema q)) D (λ d at. absurd (Memᴰ.not-nil at)) t)
 
   -- Each head variable still occurs in a row
   pub core-safe : WellFormed schema (query_of schema q) → (v : ℕ) → v ∈ variables_of (query_of schema r).head
       → v ∈ variables_of (row_entries (query_of schema r).rows)
-  core-safe well = (reduction-wellformed schema [] (query_of schema q) (query_of schema r) well (core-reduction schema q r p)).head-safe
+  core-safe well =
+      subst (λ (x : theory.Query). (v : ℕ) → v ∈ variables_of x.head → v ∈ variables_of (row_entries x.rows)) (sym p.view)
+      (reduction-wellformed schema [] (query_of schema q) (core (query_of schema q)) well (core-reduction (query_of schema q))).head-safe

@@ -1,7 +1,4 @@
--- What other crates cite: a core has the answers of its query (Answers).
+-- Laws of this crate's own proofs: the order of rows (RowOrder), a query with one row more (Inserted), and the core's answers (Answers).
+pub mod RowOrder
+pub mod Inserted
 pub mod Answers
--- Laws of this crate's own proofs: a query without one row (Shorter), the elements of a list that a mask has (Marked), a query with the rows of a mask, and
--- why those that are kept make a core (Cut).
-pub mod Shorter
-pub mod Marked
-pub mod Cut
