@@ -4,5 +4,6 @@ pub mod Types
 pub mod View
 pub mod Rule
 pub mod Examples
+pub mod Stored
 pub mod Meaning
 pub mod internal
