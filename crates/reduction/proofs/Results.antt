@@ -12,7 +12,7 @@ use Rattle.std.specs.Prelude.{Ok}
 use Rattle.query.specs.View.{query_of, as_query, dependency_of, images_of}
 use Rattle.record.specs.View.{schema_of, dependencies_of}
 use Rattle.lists.specs.Tests.{every, between}
-use Rattle.query.specs.Rule.{good_dependency, blank_dependency, good_query, head_safe, no_cell, no_place, place_with}
+use Rattle.query.specs.Rule.{good_dependency, blank_dependency, good_query, head_safe, no_cell, no_place, place_with, shaped_for}
 use Rattle.record.specs.Rule.{good_record}
 use Rattle.refusals.specs.Refusals.{first_holding, refused, gives}
 use Rattle.record.specs.Calls.{unknown_place, vacant, is_filled, with_place, stored_at}
@@ -37,6 +37,10 @@ use Rattle.theory.specs.Answer.{IsMapping, Mapping}
 use Rattle.theory.specs.Chase.{chase}
 use Rattle.theory.specs.Database as database
 use Rattle.minimization.specs.Reduction.{Reduction}
+use Rattle.minimization.specs.Kept.{core, reduced}
+use Rattle.minimization.proofs.Kept.{reduced-reduction}
+use Rattle.query.specs.Stored.{stored_form}
+use Rattle.query.proofs.Meaning.{stored-back}
 use Rattle.theory.proofs.Carry.{mapping-target}
 use Rattle.theory.proofs.Chase.{chase-count-le}
 use Rattle.theory.proofs.Lists.{subset-of}
@@ -73,20 +77,6 @@ module _ (schema : List ℕ) (widths : every (between 1 8) schema ≡ true) (dep
   pub chased-good : good_query schema (stored_of chased.query) ≡ true
   chased-good = stored-good schema chased.query room fits-12 is.good
 
--- Losing rows of the chased query gives a result of reduction
-result-of : {schema : List ℕ} (ds : List database.Dependency) (q : Query) {query result : Query} → query_of schema query ≡ (chase ds (query_of schema q)).query
-    → IsCoreOf schema query result → Reduction ds (query_of schema q) (query_of schema result)
-result-of {schema} ds q {query} {result} is p =
-    record {
-      head = p.head ∙ ap (λ (x : theory.Query). x.head) is;
-      rows = λ r at. subst (λ (x : theory.Query). r ∈ x.rows) is (p.rows r at);
-      receives =
-          λ some-rows.
-          subst (λ (x : theory.Query). Mapping x (query_of schema result)) is
-          (p.receives (λ none_left. some-rows (sym (ap (λ (x : theory.Query). x.rows) is) ∙ none_left)));
-      core = p.core;
-    }
-
 -- The images of a mapping that was looked for: constant 0 of each variable where there is none
 abbrev pub images_found : Maybe (List Cell) → List Cell
 images_found mapped = unwrap_or mapped (replicate 96 no_cell)
@@ -110,16 +100,18 @@ unfolding head_safe
 shortened schema ds q query result count mapped widths long good safe is counted p m =
     let S = query_of schema q in
     let T = query_of schema result in
-    let reduced : Reduction ds S T = result-of ds q is p in
+    let given : T ≡ reduced ds S = p.view ∙ ap core is in
+    let result-is : Reduction ds S T = subst (Reduction ds S) (sym given) (reduced-reduction ds S) in
     let well : WellFormed schema S = well-formed 12 schema (width-le schema widths) q good long safe in
     record {
       good = p.good;
-      safe = subset-of (variables_of T.head) (variables_of (row_entries T.rows)) (reduction-wellformed schema ds S T well reduced).head-safe;
+      safe = subset-of (variables_of T.head) (variables_of (row_entries T.rows)) (reduction-wellformed schema ds S T well result-is).head-safe;
       reduces = record {
-        result = reduced;
-        mapping = λ some-rows. found-mapping mapped m (reduction-mapping ds S T reduced some-rows);
-        answers = reduction-answers ds S T reduced;
-        minimal = reduction-minimal schema ds S T well.rows_fit reduced;
+        given = given;
+        result = result-is;
+        mapping = λ some-rows. found-mapping mapped m (reduction-mapping ds S T result-is some-rows);
+        answers = reduction-answers ds S T result-is;
+        minimal = reduction-minimal schema ds S T well.rows_fit result-is;
         counted = counted;
         count-le = rw counted (chase-count-le ds S);
       };
@@ -146,12 +138,12 @@ module _ (r : Record) (source target : ℕ) (able : Reducible r source target) (
       }
 
   -- What is stored meets demand 3
-  pub stored-reduced : (q : Query) → q ≡ stored_at r source → (s : Shortened)
+  pub stored-reduced : (q : Query) → q ≡ stored_at r source → (s : Shortened) → shaped_for 12 s.query ≡ true
       → ((schema : List ℕ) → every (between 1 8) schema ≡ true → good_query schema q ≡ true → head_safe schema q ≡ true
       → IsShortened schema (dependencies_of r) q s)
       → ShortFormStored r source target
       (record { answer = Ok tt; «record» = with_place r target (place_with s.query); count = s.count; images = s.images })
-  stored-reduced q is s tells =
+  stored-reduced q is s shaped tells =
       let schema = schema_of r in
       let after = with_place r target (place_with s.query) in
       let told : IsShortened schema (dependencies_of r) q s =
@@ -163,7 +155,10 @@ module _ (r : Record) (source target : ℕ) (able : Reducible r source target) (
       in
       record {
         done = refl;
-        unchanged = ap (λ (x : Query). with_place r target (place_with x)) read;
+        stored =
+            ap (λ (x : Query). with_place r target (place_with x))
+            (sym (stored-back 12 schema (width-le schema (good-widths r.relations r.widths (good-record r able.good).relations)) s.query shaped told.good)
+            ∙ ap (stored_form 12) (told.reduces.given ∙ ap (λ (x : Query). reduced (dependencies_of r) (query_of schema x)) is));
         good = place_kept r target (place_with s.query) able.good (filled-place schema s.query told.good told.safe);
         reduces =
             subst (λ (x : Query). ReducesTo schema (dependencies_of r) (query_of schema (stored_at r source)) (query_of schema x) s.count

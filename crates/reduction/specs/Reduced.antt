@@ -1,4 +1,4 @@
--- What reducing the query of one place into another promises (demand 3). Which rows stay, their order and which mapping is returned are free.
+-- What reducing the query of one place into another promises (demand 3). Which mapping is returned is free, all else is not.
 use Rattle.std.specs.Prelude.{◌≡◌, ℕ, ◌≤◌, true, ◌≢◌, ◌↔◌, List, [], ◌∷◌, replicate}
 use Rattle.std.proofs.Math.Option.{Option, none, some}
 use Rattle.record.specs.declared.Record.{Record}
@@ -8,14 +8,16 @@ use Rattle.record.specs.View.{schema_of, dependencies_of}
 use Rattle.record.specs.Rule.{good_record}
 use Rattle.query.specs.Rule.{no_cell, place_with}
 use Rattle.refusals.specs.Refusals.{Condition, first_holding, Reply, refused, gives}
-use Rattle.record.specs.Calls.{broken_record, unknown_place, vacant, filled, with_place, stored_at, query_at}
+use Rattle.record.specs.Calls.{broken_record, unknown_place, vacant, filled, with_place, query_at}
 use Rattle.refusals.specs.Refusal.{reply_of}
 use Rattle.reduction.specs.declared.Reduced.{Reduced}
 use Rattle.theory.specs.Query as theory
 use Rattle.theory.specs.Database as database
 use Rattle.theory.specs.Answer as answers
 use Rattle.theory.specs.Chase as chasing
+use Rattle.query.specs.Stored.{stored_form}
 use Rattle.minimization.specs.Reduction as reduction
+use Rattle.minimization.specs.Kept.{reduced}
 
 -- What a reduction asks: 14; 7; 11 where the source is vacant; 12 where the target is filled
 abbrev pub reduction_conditions : Record → ℕ → ℕ → List Condition
@@ -33,9 +35,15 @@ reduced_reply o = (reply_of o.answer, o.«record», o.count, o.images)
 abbrev pub refused_reduction : Record → ℕ → Reply (Unit {0}) × Record × ℕ × List Cell
 refused_reduction r n = (refused n, r, 0, replicate 96 no_cell)
 
--- What an accepted reduction of S, under the schema and the dependencies ds, gives: T is the result, `images` the mapping and `count` the count
+-- The record after a reduction: the target place holds the result for the source query, and nothing else in the record has changed
+abbrev pub reduced_record : Record → ℕ → ℕ → Record
+reduced_record r source target = with_place r target (place_with (stored_form 12 (reduced (dependencies_of r) (query_at r source))))
+
+-- What holds of the result T of an accepted reduction of S, under the schema and the dependencies ds; `images` is the mapping and `count` the count
 pub record ReducesTo (schema : List ℕ) (ds : List database.Dependency) (S T : theory.Query) (count : ℕ) (images : ℕ → theory.Entry) : Type 0 where
-  -- T is a result of reduction
+  -- T is the result of reduction that is given
+  pub given : T ≡ reduced ds S
+  -- it is a result of reduction
   pub result : reduction.Reduction ds S T
   -- unless T is never, a mapping from S to T is returned
   pub mapping : T.rows ≢ [] → answers.IsMapping S T images
@@ -51,11 +59,10 @@ pub record ReducesTo (schema : List ℕ) (ds : List database.Dependency) (S T : 
 -- What an accepted reduction of the place `source` into the place `target` leaves
 pub record ShortFormStored (r : Record) (source target : ℕ) (o : Reduced) : Type 0 where
   pub done : reply_of o.answer ≡ gives tt
-  -- the target place holds a query, and nothing else in the record has changed
-  pub unchanged : o.«record» ≡ with_place r target (place_with (stored_at o.«record» target))
+  pub stored : o.«record» ≡ reduced_record r source target
   -- the record keeps its rule
   pub good : good_record o.«record» ≡ true
-  -- that query is the short form of the source query
+  -- the target place holds the short form of the source query
   pub reduces : ReducesTo (schema_of r) (dependencies_of r) (query_at r source) (query_at o.«record» target) o.count (images_of o.images)
   -- a mapping that is absent is 0
   pub no-mapping : (query_at o.«record» target).rows ≡ [] → o.images ≡ replicate 96 no_cell
