@@ -1,7 +1,8 @@
 -- The lines of a filled place: what its reduction in the record without the other places gives may be listed, and is its lines. Assumes nothing.
-use mathlib.Core.Path.{◌≡◌, sym, ap, ◌∙◌, subst}
+use mathlib.Core.Path.{◌≡◌, sym, ap, ap₂, ◌∙◌, subst}
+use mathlib.Core.Logic.{◌≢◌}
 use mathlib.Core.Bool.{true}
-use mathlib.Core.List.{List}
+use mathlib.Core.List.{List, []}
 use mathlib.Core.Option.{none}
 use Prim.Native.Nat.{ℕ, ◌+◌, ◌≤◌, ◌<◌}
 use native.Mathlib.Omega.{arith}
@@ -28,19 +29,20 @@ use Rattle.text.specs.internal.Listable.{place_room, Listable}
 use Rattle.printing.specs.internal.Writing.{WrittenAt}
 use Rattle.text.proofs.Bound.{place_short}
 use Rattle.theory.specs.Query as theory
+use Rattle.theory.specs.Answer.{IsMapping}
 use Rattle.report.specs.internal.Places.{LinesWritten, alone_in, other_place}
 use Rattle.report.proofs.Images.{images-good}
 use Rattle.report.proofs.OnePlace.{other-low, alone-query, alone-accepted}
 
 module _ (r : Record) (place : ℕ) (low : place < 8) (good : good_record r ≡ true) (long : length r.places ≡ 8) (held : is_filled r place ≡ true)
     (other : ℕ) (other-is : other ≡ other_place place) (single : Record) (single-is : single ≡ alone_in r place) (o : Reduced)
-    (reduced : IsReduced single place other o) (source : Query) (source_is : source ≡ stored_at r place)
+    (is-reduced : IsReduced single place other o) (source : Query) (source_is : source ≡ stored_at r place)
     (result : Query) (result-is : result ≡ stored_at o.«record» other) where
   -- ---- the reduction is accepted
 
   alone-reduced : IsReduced (alone_in r place) place (other_place place) o
   alone-reduced =
-      subst (λ (x : Record). IsReduced x place (other_place place) o) single-is (subst (λ (n : ℕ). IsReduced single place n o) other-is reduced)
+      subst (λ (x : Record). IsReduced x place (other_place place) o) single-is (subst (λ (n : ℕ). IsReduced single place n o) other-is is-reduced)
 
   result-stored : result ≡ stored_at o.«record» (other_place place)
   result-stored = result-is ∙ ap (λ (n : ℕ). stored_at o.«record» n) other-is
@@ -51,19 +53,19 @@ module _ (r : Record) (place : ℕ) (low : place < 8) (good : good_record r ≡ 
   -- ---- the result
 
   same-schema : schema_of o.«record» ≡ schema_of r
-  same-schema = ap (λ (x : Record). schema_of x) (alone-reduced.accepted accepted).unchanged
+  same-schema = ap (λ (x : Record). schema_of x) (alone-reduced.accepted accepted).stored
 
   alone-long : length (alone_in r place).places ≡ 8
   alone-long = simp (length-set, length-replicate)
 
   places-long : length o.«record».places ≡ 8
-  places-long = ap (λ (x : Record). length x.places) (alone-reduced.accepted accepted).unchanged ∙ simp (length-set, length-replicate)
+  places-long = ap (λ (x : Record). length x.places) (alone-reduced.accepted accepted).stored ∙ simp (length-set, length-replicate)
 
   result-filled : is_filled o.«record» (other_place place) ≡ true
   result-filled =
-      ap (λ (x : Record). is_filled x (other_place place)) (alone-reduced.accepted accepted).unchanged
+      ap (λ (x : Record). is_filled x (other_place place)) (alone-reduced.accepted accepted).stored
       ∙ ap (λ (p : Place). p.filled)
-      (get_or-set_same (alone_in r place).places (other_place place) (place_with (stored_at o.«record» (other_place place))) no_place
+      (get_or-set_same (alone_in r place).places (other_place place) _ no_place
       (rw alone-long (other-low place)))
 
   result-good : good_query (schema_of r) result ≡ true
@@ -123,12 +125,11 @@ module _ (r : Record) (place : ℕ) (low : place < 8) (good : good_record r ≡ 
         text = place_text place (query_of (schema_of r) source) (query_of (schema_of r) result) o.count (images_of o.images);
         lines =
             record {
-              result = query_of (schema_of r) result;
-              count = o.count;
               images = images_of o.images;
-              reduces = reduces;
+              mapping = subst (λ (T : theory.Query). T.rows ≢ [] → IsMapping (query_at r place) T (images_of o.images)) reduces.given reduces.mapping;
               text =
-                  ap (λ (q : Query). place_text place (query_of (schema_of r) q) (query_of (schema_of r) result) o.count (images_of o.images)) source_is;
+                  ap (λ (q : Query). place_text place (query_of (schema_of r) q) (query_of (schema_of r) result) o.count (images_of o.images)) source_is
+                  ∙ ap₂ (λ (T : theory.Query) (n : ℕ). place_text place (query_at r place) T n (images_of o.images)) reduces.given reduces.counted;
             };
         short =
             place_short r.relations r.widths (good-record r good).relations place source result o.count o.images low source-good result-good

@@ -1,24 +1,26 @@
 -- What the listing of a file is, and what it is to have written it at the start of a buffer (SPECIFICATION, The listing program).
--- Which reduction of a place is listed is free (SPECIFICATION, Reduction).
-use Rattle.std.specs.Prelude.{◌≡◌, List, [], ◌∷◌, ◌++◌, ℕ, ◌≤◌, length}
+-- Which mapping is listed is free (SPECIFICATION, Reduction).
+use Rattle.std.specs.Prelude.{◌≡◌, ◌≢◌, List, [], ◌∷◌, ◌++◌, ℕ, ◌≤◌, length}
 use Rattle.lists.specs.Over.{over}
 use Rattle.record.specs.declared.Record.{Record}
-use Rattle.record.specs.View.{schema_of, dependencies_of}
+use Rattle.record.specs.View.{dependencies_of}
 use Rattle.record.specs.Calls.{is_filled, query_at}
 use Rattle.refusals.specs.Refusals.{Reply, gives, refused}
 use Rattle.format.specs.File.{read_file}
-use Rattle.reduction.specs.Reduced.{ReducesTo}
+use Rattle.theory.specs.Answer.{IsMapping}
+use Rattle.theory.specs.Chase.{chase}
+use Rattle.minimization.specs.Kept.{reduced}
 use Rattle.lists.specs.Numbers.{numbers_where}
 use Rattle.text.specs.Text.{place_text, refused_text}
 use Rattle.theory.specs.Query as theory
 
--- The lines of a place: its number, its query, a reduction of it under the record's functional dependencies, the count and the mapping
+-- The lines of a place: its number, its query, the result of reduction under the record's functional dependencies, the count, and a mapping to the result
 pub record Lines (r : Record) (place : ℕ) (lines : List ℕ) : Type 0 where
-  pub result : theory.Query
-  pub count : ℕ
   pub images : ℕ → theory.Entry
-  pub reduces : ReducesTo (schema_of r) (dependencies_of r) (query_at r place) result count images
-  pub text : lines ≡ place_text place (query_at r place) result count images
+  pub mapping : (reduced (dependencies_of r) (query_at r place)).rows ≢ []
+      → IsMapping (query_at r place) (reduced (dependencies_of r) (query_at r place)) images
+  pub text : lines
+      ≡ place_text place (query_at r place) (reduced (dependencies_of r) (query_at r place)) (chase (dependencies_of r) (query_at r place)).count images
 
 -- The lines of some places, one after the other
 pub data AllLines (r : Record) : List ℕ → List ℕ → Type 0 where
