@@ -1,32 +1,14 @@
--- Laws of possible candidates, where the places of a row and of its image are known by equations.
+-- Where rows and their candidates are, and how many candidates a row has.
 -- Assumes nothing.
-use mathlib.Core.Path.{◌≡◌, sym, subst, subst⁻¹, subst₂, subst₃}
+use mathlib.Core.Path.{◌≡◌, refl, sym, ◌∙◌, ap}
 use mathlib.Core.Bool.{Bool, true, false, cond}
-use mathlib.Core.List.{List}
-use Prim.Native.Nat.{ℕ, ◌+◌, ◌*◌, ◌≤◌, ◌<◌}
-use native.Mathlib.Nat.{le_trans}
-use native.Mathlib.Decide.{ℕ_discrete}
+use mathlib.Core.Logic.{◌⊎◌, inl, inr, ⊎_elim}
+use Prim.Native.Nat.{ℕ, ◌+◌, ◌*◌, ◌/◌, ◌%◌, ◌≤◌, ◌<◌}
+use native.Mathlib.Decide.{dec_lt}
 use native.Mathlib.Omega.{arith}
+use borrow.Author.Tests.{eq-eqb, ne_eqb}
 use lib.Dec.{eqb}
-use lib.ListN.{set, length}
-use lib.Seq.{get_or-set_same, get_or-set_other}
-use Rattle.lists.specs.internal.Tells.{Tells}
-use Rattle.candidates.specs.internal.Candidates.{Agrees, Marks, row_start, image_start, candidates_of, Together, IsMask}
-use Rattle.candidates.specs.internal.Sharing.{Keeps}
-
--- Two candidates go together exactly when their images agree
-pub together-when : (source target : List ℕ) (size r d row image : ℕ) → row ≡ row_start size r → image ≡ image_start size r d
-    → (b : Bool) (q e other image' : ℕ) → other ≡ row_start size q → image' ≡ image_start size q e
-    → Tells b (Agrees source target row image other image') → Tells b (Together source target size r d q e)
-together-when source target size r d row image at_row at-image b q e other image' at_other at-image' tells = (
-  (λ t.
-      subst₂ (λ (x y : ℕ). Agrees source target x y (row_start size q) (image_start size q e)) at_row at-image
-      (subst₂ (λ (x y : ℕ). Agrees source target row image x y) at_other at-image' (tells.0 t))),
-  (λ p.
-      tells.1
-      (subst₂ (λ (x y : ℕ). Agrees source target x y other image') (sym at_row) (sym at-image)
-      (subst₂ (λ (x y : ℕ). Agrees source target (row_start size r) (image_start size r d) x y) (sym at_other) (sym at-image') p))),
-)
+use Rattle.candidates.specs.internal.Candidates.{row_start, image_start, candidates_of}
 
 -- A row has at most 24 candidates
 pub few-candidates : (size count r : ℕ) → count ≤ 24 → candidates_of size count r ≤ 24
@@ -36,28 +18,57 @@ few-candidates size count r h = go (eqb r size)
     go true = omega arith
     go false = h
 
--- ---- a mask that is put in its place of the table
-module _ (source target : List ℕ) (size count : ℕ) (all : List ℕ) (r d q mask : ℕ) (few : size ≤ 12) (few' : count ≤ 24) (long : length all ≡ 4056)
-    (hr : r ≤ size) (hd : d < 24) (hq : q ≤ size) (is : Marks (candidates_of size count q) mask (Together source target size r d q)) where
-  abbrev pub place : ℕ
-  place = (r * 24 + d) * 13 + q
+-- Where the codes of a row and of a candidate start
+pub head-start : (size : ℕ) → row_start size size ≡ 96
+head-start size = ap (λ (t : Bool). cond t 96 (8 * size)) (eq-eqb size size refl)
 
-  pub put-mask : IsMask source target size count (set all place mask) r d q
-  put-mask =
-      subst⁻¹ (λ (m : ℕ). Marks (candidates_of size count q) m (Together source target size r d q))
-      (get_or-set_same all place mask 0 (omega arith)) is
+pub row-start : (size r : ℕ) → r < size → row_start size r ≡ 8 * r
+row-start size r h = ap (λ (t : Bool). cond t 96 (8 * r)) (ne_eqb r size (λ e. let z : r ≡ size = e in omega arith))
 
-  -- the others are kept, and a mask that stood in its place is right again
-  pub put_keeps : Keeps source target size count all (set all place mask)
-  put_keeps r' d' q' hr' hq' hd' before = go (ℕ_discrete ((r' * 24 + d') * 13 + q') place)
-    where
-      go : Dec ((r' * 24 + d') * 13 + q' ≡ place) → IsMask source target size count (set all place mask) r' d' q'
-      go (yes e) =
-          let small : d' < 24 = le_trans hd' (few-candidates size count r' few') in
-          let row : r ≡ r' = omega arith in
-          let candidate : d ≡ d' = omega arith in
-          let other : q ≡ q' = omega arith in
-          subst₃ (λ (x y z : ℕ). IsMask source target size count (set all place mask) x y z) row candidate other put-mask
-      go (no n) =
-          subst⁻¹ (λ (m : ℕ). Marks (candidates_of size count q') m (Together source target size r' d' q'))
-          (get_or-set_other all place ((r' * 24 + d') * 13 + q') mask 0 n) before
+pub head-image : (size d : ℕ) → image_start size size d ≡ 192
+head-image size d = ap (λ (t : Bool). cond t 192 (8 * d)) (eq-eqb size size refl)
+
+pub row-image : (size r d : ℕ) → r < size → image_start size r d ≡ 8 * d
+row-image size r d h = ap (λ (t : Bool). cond t 192 (8 * d)) (ne_eqb r size (λ e. let z : r ≡ size = e in omega arith))
+
+-- A row is the head or not
+pub row-cases : (size r : ℕ) → r ≤ size → (r < size) ⊎ (r ≡ size)
+row-cases size r h = go (dec_lt r size)
+  where
+    go : Dec (r < size) → (r < size) ⊎ (r ≡ size)
+    go (yes l) = inl l
+    go (no l) = inr (omega arith)
+
+-- Column j of row r among 13 rows of 8
+pub record Place (size r j : ℕ) : Type 0 where
+  pub inside : row_start size r + j < 104
+  pub row : (row_start size r + j) / 8 ≡ row_start size r / 8
+  pub column : (row_start size r + j) % 8 ≡ j
+
+pub place_of : (size r j : ℕ) → size ≤ 12 → r ≤ size → j < 8 → Place size r j
+place_of size r j few h k =
+    ⊎_elim
+    (λ l. let e : row_start size r ≡ 8 * r = row-start size r l in record { inside = omega arith; row = omega arith; column = omega arith })
+    (λ same.
+    let e : row_start size r ≡ 96 = ap (row_start size) same ∙ head-start size in
+    record { inside = omega arith; row = omega arith; column = omega arith })
+    (row-cases size r h)
+
+-- Two rows are apart
+pub rows_apart : (size r q : ℕ) → size ≤ 12 → r ≤ size → q ≤ size → (r ≡ q → ⊥) → row_start size q / 8 ≡ row_start size r / 8 → ⊥
+rows_apart size r q few h k other same = go (row-cases size r h) (row-cases size q k)
+  where
+    go : (r < size) ⊎ (r ≡ size) → (q < size) ⊎ (q ≡ size) → ⊥
+    go (inl l) (inl m) =
+        let e : row_start size r ≡ 8 * r = row-start size r l in
+        let f : row_start size q ≡ 8 * q = row-start size q m in
+        other (omega arith)
+    go (inl l) (inr m) =
+        let e : row_start size r ≡ 8 * r = row-start size r l in
+        let f : row_start size q ≡ 96 = ap (row_start size) m ∙ head-start size in
+        omega arith
+    go (inr l) (inl m) =
+        let e : row_start size r ≡ 96 = ap (row_start size) l ∙ head-start size in
+        let f : row_start size q ≡ 8 * q = row-start size q m in
+        omega arith
+    go (inr l) (inr m) = other (l ∙ sym m)

@@ -1,4 +1,4 @@
--- What `all` and `any` over a chain tell, where the closure's result tells of each element. For any elements.
+-- What `all` over a chain tells, where the closure's result tells of each element. For any elements.
 -- Assumes nothing.
 use mathlib.Core.Path.{◌≡◌, sym, ◌∙◌, ap, ap₂, subst}
 use mathlib.Core.Bool.{Bool, true, false}
@@ -21,13 +21,6 @@ pub all-tells : {A : Type 0} (P : A → Type 0) (xs : List A) (d : A) (r : Bool)
     → Tells r ((i : ℕ) → i < length xs → P (get_or xs i d))
 all-tells P xs d true h = tells-true (λ i l. h i d (omega arith) l)
 all-tells P xs d false h = tells-false (λ all. h.2 d (all h.0 h.1))
-
--- and `any`
-pub any-tells : {A : Type 0} (P : A → Type 0) (xs : List A) (d : A) (r : Bool)
-    → MatchBool r ((k : ℕ) × (k < length xs) × HoldsAt P xs k) (AllWithin (λ x. P x → ⊥) xs 0 (length xs))
-    → Tells r ((i : ℕ) × (i < length xs) × P (get_or xs i d))
-any-tells P xs d true h = tells-true (h.0, h.1, h.2 d)
-any-tells P xs d false h = tells-false (λ w. h w.0 d (omega arith) w.1 w.2)
 
 -- The n elements from a on, as the code names them
 abbrev pub part : {A : Type 0} → ℕ → ℕ → List A → List A
@@ -65,21 +58,6 @@ all-parts {A} {B} P a b n xs ys d e r h k found = ((λ t i l. pair i l ((tells.0
 
     back : (i : ℕ) → i < n → P (get_or xs (a + i) d, get_or ys (b + i) e) → P (get_or zs i (d, e))
     back i l p = subst P (sym (at i l)) p
-
--- `any` over a part
-pub any-part : {A : Type 0} (P : A → Type 0) (a n : ℕ) (xs : List A) (d : A) (r : Bool) → a + n ≤ length xs
-    → (let zs = part a n xs in MatchBool r ((k : ℕ) × (k < length zs) × HoldsAt P zs k) (AllWithin (λ x. P x → ⊥) zs 0 (length zs)))
-    → Tells r ((i : ℕ) × (i < n) × P (get_or xs (a + i) d))
-any-part {A} P a n xs d r h found = ((λ t. there (tells.0 t)), (λ w. tells.1 (back w)))
-  where
-    tells : Tells r ((i : ℕ) × (i < length (part a n xs)) × P (get_or (part a n xs) i d))
-    tells = any-tells P (part a n xs) d r found
-
-    there : ((i : ℕ) × (i < length (part a n xs)) × P (get_or (part a n xs) i d)) → (i : ℕ) × (i < n) × P (get_or xs (a + i) d)
-    there w = let l : w.0 < n = rw (← part-length a n xs h) w.1 in (w.0, l, subst P (part-at a n xs d w.0 l) w.2)
-
-    back : ((i : ℕ) × (i < n) × P (get_or xs (a + i) d)) → (i : ℕ) × (i < length (part a n xs)) × P (get_or (part a n xs) i d)
-    back w = let l : w.0 < n = w.1 in (w.0, rw (part-length a n xs h) l, subst P (sym (part-at a n xs d w.0 l)) w.2)
 
 -- Two parts are the same where they are the same at each place
 pub same-parts : {A : Type 0} (a b n : ℕ) (xs ys : List A) (d : A) → a + n ≤ length xs → b + n ≤ length ys

@@ -1,8 +1,8 @@
 // Whether a choice of images is consistent: rows as codes of entries, 8 to a row.
-ghost use Rattle.std.specs.Prelude.{◌+◌, ◌≤◌, length};
+ghost use Rattle.std.specs.Prelude.{◌≡◌, true, ◌+◌, ◌≤◌, length};
 ghost use Rattle.lists.specs.internal.Tells.{Tells};
 ghost use Rattle.candidates.specs.internal.Candidates.{Takes, Agrees, Fixes, SameRow};
-ghost use Rattle.candidates.specs.internal.Sharing.{Holds, Shares};
+ghost use Rattle.candidates.specs.internal.Sharing.{Once};
 
 use query::Entry;
 
@@ -31,37 +31,33 @@ pub fn agrees(source: &[u32], target: &[u32], r: usize, d: usize, q: usize, e: u
     })
 }
 
-// Whether the entry of code `value` stands in the row at q.
-pub fn holds(source: &[u32], value: u32, q: usize) -> bool
-    requires { q + 8 ≤ length source.now }
-    ensures { Tells result (Holds source.now value q) }
+// Whether no variable stands twice in the row at r. If so, each image of it takes each of its variables to one entry.
+// Kept as it is: a chain would number the codes and test each by the same condition.
+pub fn once(source: &[u32], r: usize) -> bool
+    requires { r + 8 ≤ length source.now }
+    ensures { result ≡ true → Once source.now r }
 {
-    source[q..q + 8].contains(&value)
-}
-
-// Whether the rows at r and q share a variable. If not, all images of theirs agree.
-pub fn shares(source: &[u32], r: usize, q: usize) -> bool
-    requires { (r + 8 ≤ length source.now) × (q + 8 ≤ length source.now) }
-    ensures { Tells result (Shares source.now r q) }
-{
-    let row = &source[r..r + 8];
-    row.iter().any(|&value| match Entry::from(value) {
-        Entry::Constant(_) => false,
-        Entry::Variable(_) => holds(source, value, q),
-    })
+    for i in 0..8 {
+        let code = source[r + i];
+        if code >= 2147483648 && source[r..r + i].contains(&code) {
+            return false;
+        }
+    }
+    true
 }
 
 // Whether the image at d has each constant of the row at r in its place.
+// Kept as it is: all 8 are compared at once, with no test in between: a chain that ends early takes twice the instructions.
 pub fn fixes(source: &[u32], target: &[u32], r: usize, d: usize) -> bool
     requires { (r + 8 ≤ length source.now) × (d + 8 ≤ length target.now) }
     ensures { Tells result (Fixes source.now target.now r d) }
 {
-    let row = &source[r..r + 8];
-    let images = &target[d..d + 8];
-    row.iter().zip(images).all(|(&value, &image)| match Entry::from(value) {
-        Entry::Constant(_) => image == value,
-        Entry::Variable(_) => true,
-    })
+    let mut all = true;
+    for i in 0..8 {
+        let value = source[r + i];
+        all &= (value >= 2147483648) | (target[d + i] == value);
+    }
+    all
 }
 
 // Whether the rows at a and b are the same.

@@ -1,6 +1,6 @@
 // Masks with bit e for number e.
 ghost use Rattle.std.specs.Prelude.{ℕ, ◌<◌, ◌≤◌};
-ghost use Rattle.candidates.specs.internal.Candidates.{Marks, Tested};
+ghost use Rattle.candidates.specs.internal.Candidates.{Tested};
 
 // The numbers below n that pass a test.
 // Kept as it is: e is what the test is asked of, and goes through nothing. `liveness::columns_where` is this for 8 columns, in a crate that knows no mappings.
@@ -14,12 +14,4 @@ pub fn marks_where<F: Fn(usize) -> bool>(n: usize, test: F) -> u32
         mask = mask * 2 + u32::from(test(e));
     }
     mask
-}
-
-// All numbers below n.
-pub fn all_below(n: usize) -> u32
-    requires { n ≤ 24 }
-    ensures { Marks n result (λ e. Unit {0}) }
-{
-    (1 << n) - 1
 }

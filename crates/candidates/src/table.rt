@@ -1,13 +1,15 @@
 // What the search is given: the candidates of each row, and which candidates of one row go together with a candidate of another. Rows 0 to size - 1
 // are the source's rows, whose candidates are the target's rows; row `size` is its head, whose one candidate is the target's head.
 // Kept as it is: that there are at most 12 rows is a fact about a number, as in `consistency`.
-ghost use Rattle.std.specs.Prelude.{◌≡◌, false, ℕ, ◌+◌, ◌≤◌, ◌<◌, length};
+ghost use Rattle.std.specs.Prelude.{◌≡◌, true, ℕ, ◌+◌, ◌≤◌, ◌<◌, length};
 ghost use Rattle.lists.specs.internal.Tells.{Tells};
-ghost use Rattle.candidates.specs.internal.Candidates.{Marks, Repeats, row_start, image_start, candidates_of, Laid, Together, Possible, IsDomain, IsTable};
-ghost use Rattle.candidates.specs.internal.Sharing.{Shares, IsPair, Keeps};
+ghost use Rattle.candidates.specs.internal.Candidates.{Marks, Repeats, row_start, image_start, candidates_of, Laid, Possible, IsDomain, IsTable};
+ghost use Rattle.candidates.specs.internal.Sharing.{Once};
 
-use crate::agree::{agrees, fixes, same_row, shares};
-use crate::marks::{all_below, marks_where};
+use crate::agree::{agrees, fixes, once, same_row};
+use crate::cuts::cut_columns;
+use crate::marks::marks_where;
+use crate::shared::{share, shared_columns};
 
 // Where the numbers of row r start: the head's after those of 12 rows.
 pub fn row_at(size: usize, r: usize) -> usize
@@ -26,34 +28,11 @@ pub fn image_at(size: usize, r: usize, d: usize) -> usize
 }
 
 // How many candidates row r has, of a target with `count` rows.
-fn candidates(size: usize, count: usize, r: usize) -> usize
+pub fn candidates(size: usize, count: usize, r: usize) -> usize
     requires { count ≤ 24 }
     ensures { (result ≡ candidates_of size count r) × (result ≤ 24) }
 {
     if r == size { 1 } else { count }
-}
-
-// The candidates of row q that go together with candidate d of row r.
-// Kept as it is: source, target, size and count stay parameters: what is called below reads one or two of the four, and would be handed them one by one.
-// Source and target are slices, as in `agree`, and their lengths stand in `Laid` beside the counts, a clause that arrays would leave in each contract.
-fn together(
-    source: &[u32],
-    target: &[u32],
-    size: usize,
-    count: usize,
-    r: usize,
-    d: usize,
-    q: usize,
-) -> u32
-    requires { Laid source.now target.now size count × (r ≤ size) × (d < 24) × (q ≤ size) }
-    ensures { Marks (candidates_of size count q) result (Together source.now target.now size r d q) }
-{
-    let row = row_at(size, r);
-    let image = image_at(size, r, d);
-    let other = row_at(size, q);
-    marks_where(candidates(size, count, q), |e| {
-        agrees(source, target, row, image, other, image_at(size, q, e))
-    })
 }
 
 // Whether row d of the target is the same as an earlier one.
@@ -70,34 +49,42 @@ pub fn repeats(target: &[u32], offered: [u8; 24], d: usize) -> bool
     false
 }
 
-// Whether row r can go to candidate d at all: a row of the same relation, the first of its like, with the row's constants in their places and one entry for
-// each of its variables.
+// The rows of the target that are no repeats of earlier ones.
+pub fn distinct(target: &[u32], offered: [u8; 24], count: usize) -> u32
+    requires { (length target.now ≡ 200) × (count ≤ 24) }
+    ensures { Marks count result (λ d. Repeats target.now offered d → ⊥) }
+{
+    marks_where(count, |d| !repeats(target, offered, d))
+}
+
+// Whether row r can go to candidate d at all: a row of the same relation, one of `fresh`, the first of their like, with the row's constants in their places
+// and one entry for each of its variables. Where no variable stands twice in the row, `plain`, that is so.
 fn possible(
     source: &[u32],
     target: &[u32],
     named: [u8; 12],
     offered: [u8; 24],
     size: usize,
+    count: usize,
+    fresh: u32,
+    plain: bool,
     r: usize,
     d: usize,
 ) -> bool
-    requires { Laid source.now target.now size 0 × (r ≤ size) × (d < 24) }
+    requires laid { Laid source.now target.now size count × (r ≤ size) × (d < candidates_of size count r) }
+    requires distinct { Marks count fresh (λ d. Repeats target.now offered d → ⊥) }
+    requires once { plain ≡ true → Once source.now (row_start size r) }
     ensures { Tells result (Possible source.now target.now named offered size r d) }
 {
-    if r < size {
-        if named[r] != offered[d] {
-            return false;
-        }
-        if repeats(target, offered, d) {
-            return false;
-        }
+    if r < size && (named[r] != offered[d] || (fresh >> d) % 2 == 0) {
+        return false;
     }
     let row = row_at(size, r);
     let image = image_at(size, r, d);
     if !fixes(source, target, row, image) {
         return false;
     }
-    agrees(source, target, row, image, row, image)
+    plain || agrees(source, target, row, image, row, image)
 }
 
 // The candidates of row r.
@@ -108,13 +95,18 @@ fn domain(
     offered: [u8; 24],
     size: usize,
     count: usize,
+    fresh: u32,
     r: usize,
 ) -> u32
-    requires { Laid source.now target.now size count × (r ≤ size) }
+    requires laid { Laid source.now target.now size count × (r ≤ size) }
+    requires distinct { Marks count fresh (λ d. Repeats target.now offered d → ⊥) }
     ensures { Marks (candidates_of size count r) result (Possible source.now target.now named offered size r) }
 {
+    let plain = once(source, row_at(size, r));
     marks_where(candidates(size, count, r), |d| {
-        possible(source, target, named, offered, size, r, d)
+        possible(
+            source, target, named, offered, size, count, fresh, plain, r, d,
+        )
     })
 }
 
@@ -132,75 +124,27 @@ pub fn domains(
     ensures { IsDomain source.now target.now named offered size count result }
 {
     let mut all = [0u32; 13];
+    let fresh = distinct(target, offered, count);
     for (r, mask) in all[..size + 1].iter_mut().enumerate() {
-        *mask = domain(source, target, named, offered, size, count, r);
+        *mask = domain(source, target, named, offered, size, count, fresh, r);
     }
     all
 }
 
-// The candidates of row q that go together with candidate d of row r, where it is known whether the rows share a variable.
-fn mask(
-    source: &[u32],
-    target: &[u32],
-    size: usize,
-    count: usize,
-    sharing: bool,
-    r: usize,
-    d: usize,
-    q: usize,
-) -> u32
-    requires laid { Laid source.now target.now size count × (r ≤ size) × (d < 24) × (q ≤ size) }
-    requires fact { sharing ≡ false → Shares source.now (row_start size r) (row_start size q) → ⊥ }
-    ensures { Marks (candidates_of size count q) result (Together source.now target.now size r d q) }
-{
-    if !sharing {
-        return all_below(candidates(size, count, q));
-    }
-    together(source, target, size, count, r, d, q)
-}
-
-// The table with the masks of row q for each candidate of row r.
-fn put_pair(
-    table: &mut [u32],
-    source: &[u32],
-    target: &[u32],
-    size: usize,
-    count: usize,
-    r: usize,
-    q: usize,
-)
-    requires { Laid source.now target.now size count × (r ≤ size) × (q ≤ size) × (length table.old ≡ 4056) }
-    ensures { Keeps source.now target.now size count table.old table.new ×
-        IsPair source.now target.now size count table.new r q }
-{
-    let sharing = shares(source, row_at(size, r), row_at(size, q));
-    // Kept as it is: a mask's place is made of three numbers, and so is the mask.
-    for d in 0..candidates(size, count, r) {
-        table[(r * 24 + d) * 13 + q] = mask(source, target, size, count, sharing, r, d, q);
-    }
-}
-
-// The table with the masks of every row for each candidate of row r.
-fn put_row(table: &mut [u32], source: &[u32], target: &[u32], size: usize, count: usize, r: usize)
-    requires { Laid source.now target.now size count × (r ≤ size) × (length table.old ≡ 4056) }
-    ensures { Keeps source.now target.now size count table.old table.new ×
-        ((q : ℕ) → q ≤ size → IsPair source.now target.now size count table.new r q) }
-{
-    // Kept as it is: q is a row's number and indexes nothing here.
-    for q in 0..size + 1 {
-        put_pair(table, source, target, size, count, r, q);
-    }
-}
-
-// The whole table.
-pub fn table(source: &[u32], target: &[u32], size: usize, count: usize) -> [u32; 4056]
+// The whole table: from all candidates, those that meet in every two columns where rows share a variable.
+// Kept as it is: it is written in its place: a result of 16 KB would be copied twice on its way.
+pub fn table(table: &mut [u32; 4056], source: &[u32], target: &[u32], size: usize, count: usize)
     requires { Laid source.now target.now size count }
-    ensures { IsTable source.now target.now size count result }
+    ensures { IsTable source.now target.now size count table.new }
 {
-    let mut all = [0u32; 4056];
-    // Kept as it is: r is a row's number and indexes nothing here.
-    for r in 0..size + 1 {
-        put_row(&mut all, source, target, size, count, r);
+    table.fill(16777215);
+    let columns = shared_columns(source);
+    // Kept as it is: k is two columns' numbers and indexes nothing here.
+    for k in 0..64 {
+        let i = k / 8;
+        let j = k % 8;
+        if share(&columns, i, j) {
+            cut_columns(table, source, target, size, count, i, j);
+        }
     }
-    all
 }

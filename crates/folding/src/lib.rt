@@ -2,17 +2,17 @@
 // once, from the last to the first. The candidates, the table and the links of the search are made once; a trial only leaves rows out. Masks have bit d for row d.
 #![tactic(auto)]
 
-ghost use Rattle.std.specs.Prelude.{◌≡◌, true, List, ℕ, ◌^◌, ◌≤◌, ◌<◌, length};
+ghost use Rattle.std.specs.Prelude.{◌≡◌, true, List, ℕ, ◌^◌, ◌≤◌, ◌<◌};
 ghost use Rattle.query.specs.Rule.{good_query};
 ghost use Rattle.lists.specs.internal.Tells.{Tells};
 ghost use Rattle.consistency.specs.internal.Solution.{Bit};
-ghost use Rattle.candidates.specs.internal.Candidates.{Marks, Repeats};
+ghost use Rattle.candidates.specs.internal.Candidates.{Marks};
 ghost use Rattle.mapping.specs.internal.Mapped.{Narrow};
 ghost use Rattle.folding.specs.internal.Folding.{FoldsInto, LeftBut, Among, Tried};
 ghost use Rattle.folding.specs.internal.Kept.{Readable, IsKept};
 
 use candidates::marks::marks_where;
-use candidates::table::{domains, repeats, table};
+use candidates::table::{distinct, domains, table};
 use consistency::all_links;
 use mapping::cells::flat;
 use query::{Cell, Query};
@@ -61,14 +61,6 @@ fn without(left: u32, size: usize, i: usize) -> u32
     marks_where(size, |d| stays(left, i, d))
 }
 
-// The rows that are no repeats of earlier ones.
-fn distinct(target: &[u32], offered: [u8; 24], size: usize) -> u32
-    requires { (length target.now ≡ 200) × (size ≤ 12) }
-    ensures { Marks size result (λ d. Repeats target.now offered d → ⊥) }
-{
-    marks_where(size, |d| !repeats(target, offered, d))
-}
-
 // The rows that are left once row i is tried.
 fn tried(
     domain: &[u32; 13],
@@ -104,7 +96,8 @@ pub fn kept(q: Query) -> u32
     let to = codes_of(&cells);
     let offered = target.relations;
     let domain = domains(&from, &to, q.relations, offered, size, size);
-    let pairs = table(&from, &to, size, size);
+    let mut pairs = [0u32; 4056];
+    table(&mut pairs, &from, &to, size, size);
     let links = all_links(&domain, &pairs, size + 1);
     let mut left = distinct(&to, offered, size);
     // Kept as it is: i is a row's number and indexes nothing; a `fold` would have to say of its closure that the mask stays below 2 to the size.

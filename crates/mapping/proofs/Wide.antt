@@ -25,7 +25,7 @@ use Rattle.candidates.specs.internal.Candidates.{row_start, image_start, candida
 use Rattle.mapping.specs.internal.Lines.{entry_in, Assigned}
 use Rattle.lists.proofs.Positions.{below-some}
 use Rattle.candidates.proofs.Masks.{has-below}
-use Rattle.candidates.proofs.Candidates.{few-candidates}
+use Rattle.candidates.proofs.Candidates.{few-candidates, head-start, row-start, head-image, row-image, row-cases, place_of}
 use Rattle.candidates.proofs.Repeats.{first-like}
 
 -- ---- 1. a mapping by positions
@@ -39,32 +39,6 @@ pub record Wide (top : ℕ) (source target : ℕ → Entry) (named offered : Lis
   pub elsewhere : (v : ℕ) → ((k : ℕ) → k < 104 → source k ≡ variable v → ⊥) → f v ≡ constant 0
 
 -- ---- 2. where rows and candidates are
-
--- Where the codes of a row and of a candidate start
-head-start : (size : ℕ) → row_start size size ≡ 96
-head-start size = ap (λ (t : Bool). cond t 96 (8 * size)) (eq-eqb size size refl)
-
-row-start : (size r : ℕ) → r < size → row_start size r ≡ 8 * r
-row-start size r h = ap (λ (t : Bool). cond t 96 (8 * r)) (ne_eqb r size (λ e. let z : r ≡ size = e in omega arith))
-
-head-image : (size d : ℕ) → image_start size size d ≡ 192
-head-image size d = ap (λ (t : Bool). cond t 192 (8 * d)) (eq-eqb size size refl)
-
-row-image : (size r d : ℕ) → r < size → image_start size r d ≡ 8 * d
-row-image size r d h = ap (λ (t : Bool). cond t 192 (8 * d)) (ne_eqb r size (λ e. let z : r ≡ size = e in omega arith))
-
--- A row is the head or not
-row-cases : (size r : ℕ) → r ≤ size → (r < size) ⊎ (r ≡ size)
-row-cases size r h = go (dec_lt r size)
-  where
-    go : Dec (r < size) → (r < size) ⊎ (r ≡ size)
-    go (yes l) = inl l
-    go (no l) = inr (omega arith)
-
-row_inside : (size r i : ℕ) → size ≤ 12 → r ≤ size → i < 8 → row_start size r + i < 104
-row_inside size r i few h k =
-    ⊎_elim (λ l. let e : row_start size r ≡ 8 * r = row-start size r l in omega arith)
-    (λ same. let e : row_start size r ≡ 96 = ap (row_start size) same ∙ head-start size in omega arith) (row-cases size r h)
 
 image-inside : (size r d i : ℕ) → r ≤ size → d < 24 → i < 8 → image_start size r d + i < 200
 image-inside size r d i h small k =
@@ -96,7 +70,7 @@ module _ (source target : ℕ → Entry) (from to named offered : List ℕ) (siz
 
   module _ (f : ℕ → Entry) (choice : ℕ → ℕ) (lands : LandsOn f choice) where
     at_row : (r i : ℕ) → r ≤ size → i < 8 → row_start size r + i < 104
-    at_row r i h k = row_inside size r i few h k
+    at_row r i h k = (place_of size r i few h k).inside
 
     at-image : (r i : ℕ) → r ≤ size → i < 8 → image_start size r (choice r) + i < 200
     at-image r i h k = image-inside size r (choice r) i h (few-choices choice lands.is-candidate r h) k
@@ -132,8 +106,8 @@ module _ (source target : ℕ → Entry) (from to named offered : List ℕ) (siz
           below = λ r h. few-choices choice lands.is-candidate r (omega arith);
           held = λ r h. ((is-domain r (omega arith)).1 (choice r) (lands.is-candidate r (omega arith))).1 (lands-possible r (omega arith));
           joined = λ r q h k.
-              ((is-table r (choice r) q (omega arith) (omega arith) (lands.is-candidate r (omega arith))).1 (choice q) (lands.is-candidate q (omega arith))).1
-              (lands-together r q (omega arith) (omega arith));
+              (is-table r (choice r) q (omega arith) (omega arith) (lands.is-candidate r (omega arith)) (choice q) (lands.is-candidate q (omega arith))).1
+              (λ other. lands-together r q (omega arith) (omega arith));
         }
 
   -- Images of rows, each with a property, and the head's are a solution: of the rows that are the same as an image, the first is taken
@@ -228,8 +202,12 @@ module _ (source target : ℕ → Entry) (from to named offered : List ℕ) (siz
     chosen-possible r h = ((is-domain r h).1 (choice r) (chosen-candidate r h)).0 (solution.held r (omega arith))
 
     chosen-together : (r q : ℕ) → r ≤ size → q ≤ size → Together from to size r (choice r) q (choice q)
-    chosen-together r q h k =
-        ((is-table r (choice r) q h k (chosen-candidate r h)).1 (choice q) (chosen-candidate q k)).0 (solution.joined r q (omega arith) (omega arith))
+    chosen-together r q h k = go (ℕ_discrete r q)
+      where
+        go : Dec (r ≡ q) → Together from to size r (choice r) q (choice q)
+        go (yes same) = subst (λ (x : ℕ). Together from to size r (choice r) x (choice x)) same (chosen-possible r h).agrees
+        go (no other) =
+            (is-table r (choice r) q h k (chosen-candidate r h) (choice q) (chosen-candidate q k)).0 (solution.joined r q (omega arith) (omega arith)) other
 
     pub chosen-small : (r : ℕ) → r ≤ size → choice r < 24
     chosen-small r h = few-choices choice chosen-candidate r h
@@ -257,7 +235,7 @@ module _ (source target : ℕ → Entry) (from to named offered : List ℕ) (siz
 
     module _ (f : ℕ → Entry) (taken : Taken f) where
       place : (r i : ℕ) → r ≤ size → i < 8 → row_start size r + i < 104
-      place r i h k = row_inside size r i few h k
+      place r i h k = (place_of size r i few h k).inside
 
       image-place : (r i : ℕ) → r ≤ size → i < 8 → image_start size r (choice r) + i < 200
       image-place r i h k = image-inside size r (choice r) i h (chosen-small r h) k

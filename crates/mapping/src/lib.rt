@@ -29,7 +29,8 @@ pub fn find(source: Query, target: Tableau) -> Option<[Cell; 96]>
     let from = codes_of(&line);
     let to = codes_of(&cells);
     let domain = domains(&from, &to, source.relations, target.relations, size, count);
-    let pairs = table(&from, &to, size, count);
+    let mut pairs = [0u32; 4056];
+    table(&mut pairs, &from, &to, size, count);
     let chosen = search::solve(&domain, &pairs, size + 1)?;
     Some(assign(&from, &cells, size, chosen))
 }

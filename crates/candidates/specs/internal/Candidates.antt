@@ -70,9 +70,10 @@ abbrev pub IsDomain : List ℕ → List ℕ → List ℕ → List ℕ → ℕ �
 IsDomain source target named offered size count domain =
     (r : ℕ) → r ≤ size → Marks (candidates_of size count r) (get_or domain r 0) (Possible source target named offered size r)
 
--- The mask of the candidates of row q that go together with candidate d of row r
+-- A mask of the candidates of row q that go together with candidate d of row r. Its bits past the candidates say nothing, and it has each candidate of r itself
 abbrev pub IsMask : List ℕ → List ℕ → ℕ → ℕ → List ℕ → ℕ → ℕ → ℕ → Type 0
-IsMask source target size count table r d q = Marks (candidates_of size count q) (goes table r d q) (Together source target size r d q)
+IsMask source target size count table r d q =
+    (e : ℕ) → e < candidates_of size count q → (Has (goes table r d q) e ↔ ((r ≡ q → ⊥) → Together source target size r d q e))
 
 -- All these masks
 abbrev pub IsTable : List ℕ → List ℕ → ℕ → ℕ → List ℕ → Type 0

@@ -17,7 +17,7 @@ use Rattle.tableaux.specs.internal.Tableaux.{tableau_of}
 use Rattle.folding.proofs.Theory.{Made, make, Trying, trying-start, trying-next, trying-end}
 use Rattle.folding.specs.internal.Kept.{Readable}
 use Rattle.folding.proofs.kept.Goals as goal
-use Rattle.folding.proofs.kept.Goals.{After-codes_of-to, After-table-pairs}
+use Rattle.folding.proofs.kept.Goals.{After-codes_of-to, After-table}
 
 -- The lengths of arrays are the types'
 to-long : (c : After-codes_of-to) → length c.codes_of-to.result ≡ 200
@@ -31,29 +31,31 @@ laid c =
     let small : c.args.q.size ≤ 12 = few c.args.q c.requires in
     record { source-length = search rules; target-length = to-long c; few-rows = small; few-images = search rules }
 
-made : (c : After-table-pairs) → Made c.args.q c.codes_of-from.result c.codes_of-to.result c.domains-domain.result c.table-pairs.result
+made : (c : After-table) → Made c.args.q c.codes_of-from.result c.codes_of-to.result c.domains-domain.result c.table.new.table
 made c =
     let q = c.args.q in
     let t = c.from_query-target in
     let sizes : SizedFor 12 q =
     record { head = search (mapped-length, rules); relations = search (mapped-length, rules); cells = search (mapped-length, rules) }
     in
-    make q t.result t.ensures sizes (few q c.requires) c.codes_of-from.result c.codes_of-to.result c.domains-domain.result c.table-pairs.result
+    make q t.result t.ensures sizes (few q c.requires) c.codes_of-from.result c.codes_of-to.result c.domains-domain.result c.table.new.table
     (line_code 12 q c.flat-line.result c.codes_of-from.result c.flat-line.ensures c.codes_of-from.ensures)
     (line_code 24 (as_query t.result) c.flat-cells.result c.codes_of-to.result c.flat-cells.ensures c.codes_of-to.ensures)
-    c.domains-domain.ensures c.table-pairs.ensures
+    c.domains-domain.ensures c.table.ensures
 
 pub domains-domain-requires : goal.domains-domain-requires
 domains-domain-requires c = laid (goal.at.domains-domain-requires c).After-codes_of-to
 
-pub table-pairs-requires : goal.table-pairs-requires
-table-pairs-requires c = laid (goal.at.table-pairs-requires c).After-codes_of-to
+pub table-requires : goal.table-requires
+table-requires c = laid (goal.at.table-requires c).After-codes_of-to
 
 pub all_links-links-requires : goal.all_links-links-requires
 all_links-links-requires c = let small : c.args.q.size ≤ 12 = few c.args.q c.requires in search rules
 
 pub distinct-left-requires : goal.distinct-left-requires
-distinct-left-requires c = (to-long (goal.at.distinct-left-requires c).After-codes_of-to, few c.args.q c.requires)
+distinct-left-requires c =
+    let small : c.args.q.size ≤ 12 = few c.args.q c.requires in
+    (to-long (goal.at.distinct-left-requires c).After-codes_of-to, search rules)
 
 pub tried-left-requires : goal.tried-left-requires
 tried-left-requires c = (few c.args.q c.requires, search rules, c.loop-i.invariant.1)
@@ -63,7 +65,7 @@ loop-i-init c =
     (
       search rules,
       c.distinct-left.ensures.0,
-      trying-start c.domains-domain.result c.table-pairs.result c.args.q.size c.distinct-left.result,
+      trying-start c.domains-domain.result c.table.new.table c.args.q.size c.distinct-left.result,
     )
 
 pub loop-i-preserved : goal.loop-i-preserved
@@ -75,8 +77,8 @@ loop-i-preserved c =
     let next : l.i ≡ i + 1 = omega arith in (
       search rules,
       ⊎_elim (λ w. subst (λ (m : ℕ). m < 2 ^ c.args.q.size) (sym w.0) l.invariant.1) (λ w. w.0.0) c.tried-left.ensures,
-      trying-next c.domains-domain.result c.table-pairs.result c.args.q.size c.distinct-left.result l.left i c.tried-left.result (omega arith)
-      (subst (Trying c.domains-domain.result c.table-pairs.result c.args.q.size c.distinct-left.result l.left) next l.invariant.2) c.tried-left.ensures,
+      trying-next c.domains-domain.result c.table.new.table c.args.q.size c.distinct-left.result l.left i c.tried-left.result (omega arith)
+      (subst (Trying c.domains-domain.result c.table.new.table c.args.q.size c.distinct-left.result l.left) next l.invariant.2) c.tried-left.ensures,
     )
 
 pub returns : goal.returns
@@ -84,8 +86,8 @@ returns c schema narrow good =
     let l = c.loop-i in
     let t = c.from_query-target in
     let none : l.i ≡ 0 = let z : l.i ≤ 0 = c.loop-i-test.false in omega arith in
-    trying-end c.domains-domain.result c.table-pairs.result c.args.q.size c.distinct-left.result l.left
-    (subst (Trying c.domains-domain.result c.table-pairs.result c.args.q.size c.distinct-left.result l.left) none l.invariant.2)
-    c.args.q c.codes_of-from.result c.codes_of-to.result (made (goal.at.returns c).After-table-pairs) refl
+    trying-end c.domains-domain.result c.table.new.table c.args.q.size c.distinct-left.result l.left
+    (subst (Trying c.domains-domain.result c.table.new.table c.args.q.size c.distinct-left.result l.left) none l.invariant.2)
+    c.args.q c.codes_of-from.result c.codes_of-to.result (made (goal.at.returns c).After-table) refl
     (subst (λ (t : Tableau). Marks c.args.q.size c.distinct-left.result (λ d. Repeats c.codes_of-to.result t.relations d → ⊥)) t.ensures c.distinct-left.ensures)
     schema narrow good

@@ -16,7 +16,7 @@ use Rattle.mapping.specs.internal.Mapped.{Finds}
 use Rattle.query.proofs.Shape.{SizedFor}
 use Rattle.mapping.proofs.Results.{storable-size, tableau-size, CodesOf, line_code, code-small, none-size, none-solution, solution-small, found-solution}
 use Rattle.mapping.proofs.find.Goals as goal
-use Rattle.mapping.proofs.find.Goals.{Start, After-codes_of-to, After-table-pairs, After-assign}
+use Rattle.mapping.proofs.find.Goals.{Start, After-codes_of-to, After-table, After-assign}
 
 source-sizes : (c : Start) → SizedFor 12 c.args.source
 source-sizes c = record { head = search (mapped-length, rules); relations = search (mapped-length, rules); cells = search (mapped-length, rules) }
@@ -60,7 +60,7 @@ to_is c =
     c.flat-cells.ensures c.codes_of-to.ensures
 
 -- The search is given few enough rows
-few-rows : (c : After-table-pairs) → c.args.source.size + 1 ≤ 13
+few-rows : (c : After-table) → c.args.source.size + 1 ≤ 13
 few-rows c =
     let few : c.args.source.size ≤ 12 = storable-size c.args.source c.requires.0 in
     omega arith
@@ -73,19 +73,19 @@ returns-then-size-eq0 c =
 pub domains-domain-requires : goal.domains-domain-requires
 domains-domain-requires c = laid (goal.at.domains-domain-requires c).After-codes_of-to
 
-pub table-pairs-requires : goal.table-pairs-requires
-table-pairs-requires c = laid (goal.at.table-pairs-requires c).After-codes_of-to
+pub table-requires : goal.table-requires
+table-requires c = laid (goal.at.table-requires c).After-codes_of-to
 
 pub solve-requires : goal.solve-requires
-solve-requires c = few-rows (goal.at.solve-requires c).After-table-pairs
+solve-requires c = few-rows (goal.at.solve-requires c).After-table
 
 pub returns-in_err-chosen : goal.returns-in_err-chosen
 returns-in_err-chosen c =
     let at = goal.at.returns-in_err-chosen c in
     subst (Finds c.args.source c.args.target) (sym c.from_residual.ensures)
     (none-solution c.args.source c.args.target (source-sizes at.Start) (target-sizes at.Start) c.requires.0 c.requires.1
-    c.flat-cells.result c.codes_of-from.result c.codes_of-to.result c.domains-domain.result c.table-pairs.result
-    (from_is at.After-codes_of-to) c.flat-cells.ensures (to_is at.After-codes_of-to) c.domains-domain.ensures c.table-pairs.ensures
+    c.flat-cells.result c.codes_of-from.result c.codes_of-to.result c.domains-domain.result c.table.new.table
+    (from_is at.After-codes_of-to) c.flat-cells.ensures (to_is at.After-codes_of-to) c.domains-domain.ensures c.table.ensures
     (c.in_err-chosen.ensures.none refl))
 
 pub assign-requires : goal.assign-requires
@@ -97,8 +97,8 @@ assign-requires c =
       storable-size _ c.requires.0,
       -- a choice that solves it has candidates below 24
       solution-small source c.args.target sizes (target-sizes at.Start) c.requires.0 c.requires.1 c.flat-cells.result
-          c.codes_of-from.result c.codes_of-to.result c.domains-domain.result c.table-pairs.result from
-          c.flat-cells.ensures (to_is at.After-codes_of-to) c.domains-domain.ensures c.table-pairs.ensures
+          c.codes_of-from.result c.codes_of-to.result c.domains-domain.result c.table.new.table from
+          c.flat-cells.ensures (to_is at.After-codes_of-to) c.domains-domain.ensures c.table.ensures
           (choice_of c.in_ok-chosen.chosen) c.in_ok-chosen.ensures.found,
       code-small source c.requires.0 sizes c.codes_of-from.result from,
     )
@@ -108,7 +108,7 @@ returns c =
     let at = goal.at.returns c in
     let some : 0 < c.args.source.size = search rules in
     found-solution c.args.source c.args.target (source-sizes at.Start) (target-sizes at.Start) c.requires.0 c.requires.1
-    c.flat-cells.result c.codes_of-from.result c.codes_of-to.result c.domains-domain.result c.table-pairs.result
-    (from_is at.After-codes_of-to) c.flat-cells.ensures (to_is at.After-codes_of-to) c.domains-domain.ensures c.table-pairs.ensures
+    c.flat-cells.result c.codes_of-from.result c.codes_of-to.result c.domains-domain.result c.table.new.table
+    (from_is at.After-codes_of-to) c.flat-cells.ensures (to_is at.After-codes_of-to) c.domains-domain.ensures c.table.ensures
     (choice_of c.in_ok-chosen.chosen) c.assign.result some c.in_ok-chosen.ensures.found (images-long at.After-assign)
     c.assign.ensures

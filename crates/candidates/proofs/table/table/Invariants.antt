@@ -1,11 +1,8 @@
--- `table` has each mask in its place. The invariant: those for the candidates of the rows passed are there.
+-- `table` cuts a table of all candidates. The invariant: it is cut for the pairs of columns passed.
 -- Assumes nothing.
-use mathlib.Core.Path.{◌≡◌}
-use Prim.Native.Nat.{ℕ, ◌≤◌, ◌<◌}
-use lib.ListN.{length}
-use Rattle.candidates.specs.internal.Sharing.{IsPair}
+use Rattle.candidates.specs.internal.Sharing.{Cut}
+use Rattle.candidates.proofs.Cutting.{Passed}
 use Rattle.candidates.proofs.table.table.Given as goal
 
-abbrev pub invariant-loop-r : goal.invariant-loop-r
-invariant-loop-r l =
-    (l.r ≤ l.r-end) × (length l.all ≡ 4056) × ((k : ℕ) → k < l.r → (q : ℕ) → q ≤ l.size → IsPair l.source l.target l.size l.count l.all k q)
+abbrev pub invariant-loop-k : goal.invariant-loop-k
+invariant-loop-k l = Cut l.size l.count (Passed l.source l.target l.size l.count l.k) l.initial.table l.table

@@ -1,0 +1,130 @@
+// A table in the making, cut to the candidates that meet in two columns: that have one code there, where their rows share a variable.
+// Kept as it is: source and target are slices, as in `agree`, and their lengths stand in `Laid` beside the counts, a clause that arrays would leave in each contract.
+ghost use Rattle.std.specs.Prelude.{◌≡◌, ◌↔◌, ℕ, ◌+◌, ◌≤◌, ◌<◌, get_or, length};
+ghost use Rattle.consistency.specs.internal.Solution.{Bit};
+ghost use Rattle.candidates.specs.internal.Candidates.{Marks, row_start, image_start, candidates_of, Laid};
+ghost use Rattle.candidates.specs.internal.Sharing.{Column, Meets, Alike, Cut, Joins};
+
+use crate::marks::marks_where;
+use crate::shared::{column, other_has};
+use crate::table::{candidates, image_at, row_at};
+
+// The candidates of row q that have the code `code` in column j.
+fn with_code(target: &[u32], size: usize, count: usize, q: usize, j: usize, code: u32) -> u32
+    requires { (length target.now ≡ 200) × (count ≤ 24) × (j < 8) }
+    ensures { Marks (candidates_of size count q) result (λ e. get_or target.now (image_start size q e + j) 0 ≡ code) }
+{
+    marks_where(candidates(size, count, q), |e| {
+        target[image_at(size, q, e) + j] == code
+    })
+}
+
+// For each row of the target the rows that have in column j its code of column i.
+fn alike(target: &[u32], count: usize, i: usize, j: usize) -> [u32; 24]
+    requires { (length target.now ≡ 200) × (count ≤ 24) × (i < 8) × (j < 8) }
+    ensures { Alike target.now count i j result }
+{
+    let mut all = [0u32; 24];
+    for (d, mask) in all[..count].iter_mut().enumerate() {
+        let code = target[8 * d + i];
+        *mask = marks_where(count, |e| target[8 * e + j] == code);
+    }
+    all
+}
+
+// The candidates of row q that have in column j the code that candidate d of row r has in column i: as `masks` says of rows, and else looked up.
+fn meeting(
+    target: &[u32],
+    masks: &[u32; 24],
+    size: usize,
+    count: usize,
+    i: usize,
+    j: usize,
+    r: usize,
+    d: usize,
+    q: usize,
+) -> u32
+    requires laid { (length target.now ≡ 200) × (count ≤ 24) × (i < 8) × (j < 8) × (r ≤ size) × (d < candidates_of size count r) × (q ≤ size) }
+    requires alike { Alike target.now count i j masks.now }
+    ensures { (e : ℕ) → e < candidates_of size count q → (Bit result e ↔ Meets target.now size i j r d q e) }
+{
+    if r < size && q < size {
+        return masks[d];
+    }
+    with_code(target, size, count, q, j, target[image_at(size, r, d) + i])
+}
+
+// The table cut to candidates of rows r and q that meet in columns i and j.
+// Kept as it is: what it is given stays apart, here and below, as in `consistency`: each function reads others of them, and the masks and the codes are made
+// once for all rows.
+fn cut_pair(
+    table: &mut [u32; 4056],
+    target: &[u32],
+    masks: &[u32; 24],
+    size: usize,
+    count: usize,
+    i: usize,
+    j: usize,
+    r: usize,
+    q: usize,
+)
+    requires laid { (length target.now ≡ 200) × (size ≤ 12) × (count ≤ 24) × (i < 8) × (j < 8) × (r ≤ size) × (q ≤ size) }
+    requires alike { Alike target.now count i j masks.now }
+    ensures { Cut size count (λ r' d q' e. q' ≡ q → r' ≡ r → Meets target.now size i j r' d q' e) table.old table.new }
+{
+    // Kept as it is: a mask's place is made of three numbers, and so is the mask.
+    for d in 0..candidates(size, count, r) {
+        table[(r * 24 + d) * 13 + q] &= meeting(target, masks, size, count, i, j, r, d, q);
+    }
+}
+
+// The table cut to candidates of row r and of others that meet in columns i and j, where the two rows share a variable there. `codes` is column j.
+fn cut_row(
+    table: &mut [u32; 4056],
+    source: &[u32],
+    target: &[u32],
+    codes: &[u32; 13],
+    masks: &[u32; 24],
+    size: usize,
+    count: usize,
+    i: usize,
+    j: usize,
+    r: usize,
+)
+    requires laid { Laid source.now target.now size count × (i < 8) × (j < 8) × (r ≤ size) }
+    requires column { Column source.now size j codes.now }
+    requires alike { Alike target.now count i j masks.now }
+    ensures { Cut size count (λ r' d q e. r' ≡ r → Joins source.now target.now size i j r' d q e) table.old table.new }
+{
+    let code = source[row_at(size, r) + i];
+    if code < 2147483648 {
+        return;
+    }
+    // Kept as it is: q is a row's number and indexes nothing here.
+    for q in 0..size + 1 {
+        if other_has(codes, code, r, q) {
+            cut_pair(table, target, masks, size, count, i, j, r, q);
+        }
+    }
+}
+
+// The table cut to candidates that meet in columns i and j, where their rows share a variable there.
+pub fn cut_columns(
+    table: &mut [u32; 4056],
+    source: &[u32],
+    target: &[u32],
+    size: usize,
+    count: usize,
+    i: usize,
+    j: usize,
+)
+    requires { Laid source.now target.now size count × (i < 8) × (j < 8) }
+    ensures { Cut size count (Joins source.now target.now size i j) table.old table.new }
+{
+    let codes = column(source, size, j);
+    let masks = alike(target, count, i, j);
+    // Kept as it is: r is a row's number and indexes nothing here.
+    for r in 0..size + 1 {
+        cut_row(table, source, target, &codes, &masks, size, count, i, j, r);
+    }
+}
