@@ -3,7 +3,7 @@
 // Kept as it is: that there are at most 12 rows is a fact about a number, as in `consistency`.
 ghost use Rattle.std.specs.Prelude.{◌≡◌, true, ℕ, ◌+◌, ◌≤◌, ◌<◌, length};
 ghost use Rattle.lists.specs.internal.Tells.{Tells};
-ghost use Rattle.candidates.specs.internal.Candidates.{Marks, Repeats, row_start, image_start, candidates_of, Laid, Possible, IsDomain, IsTable};
+ghost use Rattle.candidates.specs.internal.Candidates.{Marks, Repeats, row_start, image_start, candidates_of, Laid, IsFirstLike, Possible, IsDomain, IsTable};
 ghost use Rattle.candidates.specs.internal.Sharing.{Once};
 
 use crate::agree::{agrees, fixes, once, same_row};
@@ -35,18 +35,26 @@ pub fn candidates(size: usize, count: usize, r: usize) -> usize
     if r == size { 1 } else { count }
 }
 
-// Whether row d of the target is the same as an earlier one.
+// The first row of the target that is the same as row d.
 // Kept as it is: a chain would number the relations and test both, by the same two conditions.
+pub fn first_like(target: &[u32], offered: [u8; 24], d: usize) -> usize
+    requires { (length target.now ≡ 200) × (d < 24) }
+    ensures { IsFirstLike target.now offered d result }
+{
+    for (e, &relation) in offered[..d].iter().enumerate() {
+        if relation == offered[d] && same_row(target, 8 * e, 8 * d) {
+            return e;
+        }
+    }
+    d
+}
+
+// Whether row d of the target is the same as an earlier one.
 pub fn repeats(target: &[u32], offered: [u8; 24], d: usize) -> bool
     requires { (length target.now ≡ 200) × (d < 24) }
     ensures { Tells result (Repeats target.now offered d) }
 {
-    for (e, &relation) in offered[..d].iter().enumerate() {
-        if relation == offered[d] && same_row(target, 8 * e, 8 * d) {
-            return true;
-        }
-    }
-    false
+    first_like(target, offered, d) < d
 }
 
 // The rows of the target that are no repeats of earlier ones.

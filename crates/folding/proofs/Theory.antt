@@ -29,7 +29,7 @@ use Rattle.minimization.proofs.Search.{mappable-exact}
 use Rattle.minimization.proofs.Kept.{kept-receives, kept-step}
 use Rattle.tableaux.specs.internal.Tableaux.{tableau_of}
 use Rattle.tableaux.proofs.Tableaux.{tableau-query, tableau-good, tableau-sized}
-use Rattle.consistency.specs.internal.Solution.{Bit}
+use Rattle.consistency.specs.internal.Solution.{Bit, SameSolutions}
 use Rattle.candidates.specs.internal.Candidates.{Marks, Repeats, IsDomain, IsTable}
 use Rattle.candidates.proofs.Masks.{has-below}
 use Rattle.candidates.proofs.Repeats.{first-like}
@@ -329,34 +329,44 @@ keeping-start to offered size left marks =
 
 -- ---- the loop
 
--- Whichever query candidates and table are made of: where the rows that repeat none are left at the start, the rows from row i on are tried
+-- What a trial over some candidates says it says over others with the same solutions
+tried-same : (domain other table : List ℕ) (size left i next : ℕ) → SameSolutions (size + 1) domain other table → Tried other table size left i next
+    → Tried domain table size left i next
+tried-same domain other table size left i next same (inl (is, none)) = inl (is, λ at w. none at (w.0, (same w.0).0 w.1, w.2))
+tried-same domain other table size left i next same (inr (marks, w)) = inr (marks, (w.0, (same w.0).1 w.1, w.2))
+
+-- Whichever query the table is made of, and candidates with the same solutions: where the rows that repeat none are left at the start, the rows from row i on
+-- are tried
 abbrev pub Trying : List ℕ → List ℕ → ℕ → ℕ → ℕ → ℕ → Type 0
-Trying domain table size start left i =
-    (q : Query) (from to : List ℕ) → Made q from to domain table → q.size ≡ size → Marks size start (λ d. Repeats to (tableau_of q).relations d → ⊥)
+Trying other table size start left i =
+    (q : Query) (from to domain : List ℕ) → Made q from to domain table → SameSolutions (size + 1) domain other table → q.size ≡ size
+    → Marks size start (λ d. Repeats to (tableau_of q).relations d → ⊥)
     → Keeping to (tableau_of q).relations size left i
     × ((schema : List ℕ) → Narrow schema → good_query schema q ≡ true → KeptFrom (query_of schema q) left i)
 
-pub trying-start : (domain table : List ℕ) (size start : ℕ) → Trying domain table size start start size
-trying-start domain table size start q from to made same marks = (
+pub trying-start : (other table : List ℕ) (size start : ℕ) → Trying other table size start start size
+trying-start other table size start q from to domain made alike same marks = (
   keeping-start to (tableau_of q).relations size start marks,
   λ schema narrow good. subst (KeptFrom (query_of schema q) start) same (kept-none q from to domain table made schema narrow good start),
 )
 
-pub trying-next : (domain table : List ℕ) (size start left i next : ℕ) → i < size → Trying domain table size start left (i + 1)
-    → Tried domain table size left i next → Trying domain table size start next i
-trying-next domain table size start left i next inside trying tried q from to made same marks =
-    let now = trying q from to made same marks in (
-      keeping-next domain table to (tableau_of q).relations size left i next now.0 tried,
+pub trying-next : (other table : List ℕ) (size start left i next : ℕ) → i < size → Trying other table size start left (i + 1)
+    → Tried other table size left i next → Trying other table size start next i
+trying-next other table size start left i next inside trying tried q from to domain made alike same marks =
+    let now = trying q from to domain made alike same marks in
+    let here : Tried domain table size left i next = tried-same domain other table size left i next alike tried in (
+      keeping-next domain table to (tableau_of q).relations size left i next now.0 here,
       λ schema narrow good.
           kept-next q from to domain table made schema narrow good left i (omega (arith, inside, same))
           (subst (λ (n : ℕ). Keeping to (tableau_of q).relations n left (i + 1)) (sym same) now.0)
           (now.1 schema narrow good) next
-          (subst (λ (n : ℕ). Tried domain table n left i next) (sym same) tried),
+          (subst (λ (n : ℕ). Tried domain table n left i next) (sym same) here),
     )
 
-pub trying-end : (domain table : List ℕ) (size start left : ℕ) → Trying domain table size start left 0 → (q : Query) (from to : List ℕ)
-    → Made q from to domain table → q.size ≡ size → Marks size start (λ d. Repeats to (tableau_of q).relations d → ⊥)
+pub trying-end : (other table : List ℕ) (size start left : ℕ) → Trying other table size start left 0 → (q : Query) (from to domain : List ℕ)
+    → Made q from to domain table → SameSolutions (size + 1) domain other table → q.size ≡ size
+    → Marks size start (λ d. Repeats to (tableau_of q).relations d → ⊥)
     → (schema : List ℕ) → Narrow schema → good_query schema q ≡ true → IsKept schema q left
-trying-end domain table size start left trying q from to made same marks schema narrow good =
+trying-end other table size start left trying q from to domain made alike same marks schema narrow good =
     let whole : left / 2 ^ 0 ≡ left = omega arith in
-    sym (ap (λ (m : ℕ). marked m (query_of schema q).rows) whole) ∙ (trying q from to made same marks).1 schema narrow good
+    sym (ap (λ (m : ℕ). marked m (query_of schema q).rows) whole) ∙ (trying q from to domain made alike same marks).1 schema narrow good

@@ -2,22 +2,33 @@
 // once, from the last to the first. The candidates, the table and the links of the search are made once; a trial only leaves rows out. Masks have bit d for row d.
 #![tactic(auto)]
 
-ghost use Rattle.std.specs.Prelude.{◌≡◌, true, List, ℕ, ◌^◌, ◌≤◌, ◌<◌};
+mod guess; // guess.rt: guessing a mapping into fewer rows
+
+ghost use Rattle.std.specs.Prelude.{◌≡◌, true, IfSome, IsNone, List, ℕ, ◌+◌, ◌^◌, ◌≤◌, ◌<◌, get_or};
 ghost use Rattle.query.specs.Rule.{good_query};
 ghost use Rattle.lists.specs.internal.Tells.{Tells};
-ghost use Rattle.consistency.specs.internal.Solution.{Bit};
+ghost use Rattle.consistency.specs.internal.Solution.{Bit, Solution};
 ghost use Rattle.candidates.specs.internal.Candidates.{Marks};
 ghost use Rattle.mapping.specs.internal.Mapped.{Narrow};
-ghost use Rattle.folding.specs.internal.Folding.{FoldsInto, LeftBut, Among, Tried};
+ghost use Rattle.folding.specs.internal.Folding.{LeftBut, Among, Tried};
 ghost use Rattle.folding.specs.internal.Kept.{Readable, IsKept};
 
+use crate::guess::{guess, originals};
 use candidates::marks::marks_where;
 use candidates::table::{distinct, domains, table};
 use consistency::all_links;
 use mapping::cells::flat;
 use query::{Cell, Query};
-use search::solve_linked;
+use search::{consistent, solve_linked};
 use tableaux::codes_of;
+
+// The rows that are left, and a mapping into them, as the row that each goes to.
+// Kept as it is: the mapping is only a start for guesses, and is tested wherever it is used: nothing is said of it.
+#[derive(Clone, Copy)]
+struct Folding {
+    left: u32,
+    fold: [u8; 13],
+}
 
 // The candidates of each row that are left. The head keeps its own.
 // Kept as it is: that there are at most 12 rows is a fact about a number, as in `consistency`.
@@ -32,14 +43,29 @@ fn among(domain: &[u32; 13], size: usize, left: u32) -> [u32; 13]
     all
 }
 
-// Whether the query can be mapped into the rows that are left.
+// A solution over candidates that are left, if there is one: guessed from another, or searched for.
 // Kept as it is: domain, pairs, links and size stay parameters: `kept` alone makes them, the search takes them one by one, and the domain is another here.
-fn folds(domain: &[u32; 13], pairs: &[u32; 4056], links: &[u16; 13], size: usize, left: u32) -> bool
-    requires { size ≤ 12 }
-    ensures { Tells result (FoldsInto domain.now pairs.now size (Bit left)) }
+fn folded(
+    domain: &[u32; 13],
+    pairs: &[u32; 4056],
+    links: &[u16; 13],
+    size: usize,
+    fold: [u8; 13],
+    rest: u32,
+    i: usize,
+) -> Option<[u8; 13]>
+    requires { (size ≤ 12) × (i < size) }
+    ensures some { IfSome result (λ chosen. Solution (size + 1) domain.now pairs.now (λ r. get_or chosen r 0)) }
+    ensures none { IsNone result → (f : ℕ → ℕ) → Solution (size + 1) domain.now pairs.now f → ⊥ }
 {
-    let narrowed = among(domain, size, left);
-    solve_linked(&narrowed, pairs, links, size + 1).is_some()
+    if domain[i] == 0 {
+        return None;
+    }
+    let guessed = guess(domain, pairs, size, fold, rest, i);
+    if guessed.is_some() {
+        return guessed;
+    }
+    solve_linked(domain, pairs, links, size + 1)
 }
 
 // Whether row d is left and is not row i.
@@ -61,26 +87,27 @@ fn without(left: u32, size: usize, i: usize) -> u32
     marks_where(size, |d| stays(left, i, d))
 }
 
-// The rows that are left once row i is tried.
+// The state once row i is tried.
 fn tried(
     domain: &[u32; 13],
     pairs: &[u32; 4056],
     links: &[u16; 13],
     size: usize,
-    left: u32,
+    state: Folding,
     i: usize,
-) -> u32
-    requires { (size ≤ 12) × (i < size) × (left < 2 ^ size) }
-    ensures { Tried domain.now pairs.now size left i result }
+) -> Folding
+    requires { (size ≤ 12) × (i < size) × (state.left < 2 ^ size) }
+    ensures { Tried domain.now pairs.now size state.left i result.left }
 {
-    if (left >> i) % 2 == 0 {
-        return left;
+    if (state.left >> i) % 2 == 0 {
+        return state;
     }
-    let rest = without(left, size, i);
-    if folds(domain, pairs, links, size, rest) {
-        return rest;
+    let rest = without(state.left, size, i);
+    let narrowed = among(domain, size, rest);
+    match folded(&narrowed, pairs, links, size, state.fold, rest, i) {
+        Some(fold) => Folding { left: rest, fold },
+        None => state,
     }
-    left
 }
 
 // The rows that are kept. Those that repeat earlier ones go at once, as they would in their turn.
@@ -99,10 +126,14 @@ pub fn kept(q: Query) -> u32
     let mut pairs = [0u32; 4056];
     table(&mut pairs, &from, &to, size, size);
     let links = all_links(&domain, &pairs, size + 1);
-    let mut left = distinct(&to, offered, size);
+    let open = consistent(&domain, &pairs, &links, size + 1);
+    let mut state = Folding {
+        left: distinct(&to, offered, size),
+        fold: originals(&to, offered, size),
+    };
     // Kept as it is: i is a row's number and indexes nothing; a `fold` would have to say of its closure that the mask stays below 2 to the size.
     for i in (0..size).rev() {
-        left = tried(&domain, &pairs, &links, size, left, i);
+        state = tried(&open, &pairs, &links, size, state, i);
     }
-    left
+    state.left
 }

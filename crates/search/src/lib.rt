@@ -6,8 +6,8 @@
 // table are as in `consistency`.
 #![tactic(auto)]
 
-ghost use Rattle.std.specs.Prelude.{IfSome, IsNone, ℕ, ◌<◌, ◌≤◌, get_or};
-ghost use Rattle.consistency.specs.internal.Solution.{Solution};
+ghost use Rattle.std.specs.Prelude.{◌≡◌, true, IfSome, IsNone, ℕ, ◌<◌, ◌≤◌, get_or};
+ghost use Rattle.consistency.specs.internal.Solution.{Solution, SameSolutions};
 ghost use Rattle.consistency.specs.internal.Consistent.{Below};
 ghost use Rattle.search.specs.internal.Invariant.{IsNext, IsCandidate, RowFits, TestSays, Attempted, Placeable, Tryable};
 
@@ -174,7 +174,33 @@ pub fn solve_linked(
     place_row(domain, table, links, rows, state, 26 * rows + 1).ok()
 }
 
-// The same, with the links of the candidates.
+// Whether the choices are a solution. They may not be one though the answer is no: of a no nothing is said.
+pub fn solves(domain: &[u32; 13], table: &[u32; 4056], rows: usize, chosen: [u8; 13]) -> bool
+    requires { (rows ≤ 13) × Below chosen }
+    ensures { result ≡ true → Solution rows domain.now table.now (λ q. get_or chosen q 0) }
+{
+    test_choices(domain, table, rows, chosen).is_ok()
+}
+
+// The candidates that are left when the rows are compared with each other: the solutions are the same.
+pub fn consistent(
+    domain: &[u32; 13],
+    table: &[u32; 4056],
+    links: &[u16; 13],
+    rows: usize,
+) -> [u32; 13]
+    requires { rows ≤ 13 }
+    ensures { SameSolutions rows domain.now result table.now }
+{
+    let state = settled(links, table, rows, start(domain));
+    let mut all = *domain;
+    for (r, mask) in all.iter_mut().enumerate() {
+        *mask &= state.current[r];
+    }
+    all
+}
+
+// A solution, where there is one, with the links of the candidates.
 pub fn solve(domain: &[u32; 13], table: &[u32; 4056], rows: usize) -> Option<[u8; 13]>
     requires { rows ≤ 13 }
     ensures found { IfSome result (λ chosen. Solution rows domain.now table.now (λ r. get_or chosen r 0)) }

@@ -24,6 +24,10 @@ SameRow target a b = (i : ℕ) → i < 8 → get_or target (a + i) 0 ≡ get_or 
 abbrev pub Repeats : List ℕ → List ℕ → ℕ → Type 0
 Repeats target offered d = (e : ℕ) × (e < d) × (get_or offered e 0 ≡ get_or offered d 0) × SameRow target (8 * e) (8 * d)
 
+-- e is row d or, where that is the same as an earlier one, such a row
+abbrev pub IsFirstLike : List ℕ → List ℕ → ℕ → ℕ → Type 0
+IsFirstLike target offered d e = (e ≤ d) × (e < d → Repeats target offered d) × (e ≡ d → Repeats target offered d → ⊥)
+
 -- A mask of n bits that says of which numbers P holds
 abbrev pub Marks : ℕ → ℕ → (ℕ → Type 0) → Type 0
 Marks n mask P = (mask < 2 ^ n) × ((e : ℕ) → e < n → (Has mask e ↔ P e))

@@ -52,21 +52,26 @@ table-requires c = laid (goal.at.table-requires c).After-codes_of-to
 pub all_links-links-requires : goal.all_links-links-requires
 all_links-links-requires c = let small : c.args.q.size ≤ 12 = few c.args.q c.requires in search rules
 
-pub distinct-left-requires : goal.distinct-left-requires
-distinct-left-requires c =
+pub distinct-requires : goal.distinct-requires
+distinct-requires c =
     let small : c.args.q.size ≤ 12 = few c.args.q c.requires in
-    (to-long (goal.at.distinct-left-requires c).After-codes_of-to, search rules)
+    (to-long (goal.at.distinct-requires c).After-codes_of-to, search rules)
 
-pub tried-left-requires : goal.tried-left-requires
-tried-left-requires c = (few c.args.q c.requires, search rules, c.loop-i.invariant.1)
+pub consistent-open-requires : goal.consistent-open-requires
+consistent-open-requires c = let small : c.args.q.size ≤ 12 = few c.args.q c.requires in search rules
+
+pub originals-requires : goal.originals-requires
+originals-requires c = few c.args.q c.requires
+
+pub tried-state-requires : goal.tried-state-requires
+tried-state-requires c = (few c.args.q c.requires, search rules, c.loop-i.invariant.1)
 
 pub loop-i-init : goal.loop-i-init
-loop-i-init c =
-    (
-      search rules,
-      c.distinct-left.ensures.0,
-      trying-start c.domains-domain.result c.table.new.table c.args.q.size c.distinct-left.result,
-    )
+loop-i-init c = (
+  search rules,
+  c.distinct.ensures.0,
+  trying-start c.consistent-open.result c.table.new.table c.args.q.size c.distinct.result,
+)
 
 pub loop-i-preserved : goal.loop-i-preserved
 loop-i-preserved c =
@@ -76,9 +81,9 @@ loop-i-preserved c =
     let inside : l.i ≤ c.args.q.size = l.invariant.0 in
     let next : l.i ≡ i + 1 = omega arith in (
       search rules,
-      ⊎_elim (λ w. subst (λ (m : ℕ). m < 2 ^ c.args.q.size) (sym w.0) l.invariant.1) (λ w. w.0.0) c.tried-left.ensures,
-      trying-next c.domains-domain.result c.table.new.table c.args.q.size c.distinct-left.result l.left i c.tried-left.result (omega arith)
-      (subst (Trying c.domains-domain.result c.table.new.table c.args.q.size c.distinct-left.result l.left) next l.invariant.2) c.tried-left.ensures,
+      ⊎_elim (λ w. subst (λ (m : ℕ). m < 2 ^ c.args.q.size) (sym w.0) l.invariant.1) (λ w. w.0.0) c.tried-state.ensures,
+      trying-next c.consistent-open.result c.table.new.table c.args.q.size c.distinct.result l.state.left i c.tried-state.result.left (omega arith)
+          (subst (Trying c.consistent-open.result c.table.new.table c.args.q.size c.distinct.result l.state.left) next l.invariant.2) c.tried-state.ensures,
     )
 
 pub returns : goal.returns
@@ -86,8 +91,8 @@ returns c schema narrow good =
     let l = c.loop-i in
     let t = c.from_query-target in
     let none : l.i ≡ 0 = let z : l.i ≤ 0 = c.loop-i-test.false in omega arith in
-    trying-end c.domains-domain.result c.table.new.table c.args.q.size c.distinct-left.result l.left
-    (subst (Trying c.domains-domain.result c.table.new.table c.args.q.size c.distinct-left.result l.left) none l.invariant.2)
-    c.args.q c.codes_of-from.result c.codes_of-to.result (made (goal.at.returns c).After-table) refl
-    (subst (λ (t : Tableau). Marks c.args.q.size c.distinct-left.result (λ d. Repeats c.codes_of-to.result t.relations d → ⊥)) t.ensures c.distinct-left.ensures)
+    trying-end c.consistent-open.result c.table.new.table c.args.q.size c.distinct.result l.state.left
+    (subst (Trying c.consistent-open.result c.table.new.table c.args.q.size c.distinct.result l.state.left) none l.invariant.2)
+    c.args.q c.codes_of-from.result c.codes_of-to.result c.domains-domain.result (made (goal.at.returns c).After-table) c.consistent-open.ensures refl
+    (subst (λ (t : Tableau). Marks c.args.q.size c.distinct.result (λ d. Repeats c.codes_of-to.result t.relations d → ⊥)) t.ensures c.distinct.ensures)
     schema narrow good

@@ -5,4 +5,5 @@ use Rattle.folding.proofs.Theory.{Trying}
 use Rattle.folding.proofs.kept.Given as goal
 
 abbrev pub invariant-loop-i : goal.invariant-loop-i
-invariant-loop-i l = (l.i ≤ l.size) × (l.left < 2 ^ l.size) × Trying l.domain l.pairs l.size l.initial.left l.left l.i
+invariant-loop-i l =
+    (l.i ≤ l.size) × (l.state.left < 2 ^ l.size) × Trying l.«open» l.pairs l.size l.initial.state.left l.state.left l.i

@@ -1,20 +1,25 @@
 -- `folding::tried` lets a row go where the query can be mapped into the others. Assumes nothing.
-use mathlib.Core.Path.{refl, sym, ◌∙◌}
-use mathlib.Core.Logic.{inl}
-use mathlib.Core.Bool.{false≢true}
+use Rattle.std.proofs.Common.{◌≡◌, refl, sym, ◌∙◌, subst, List, ℕ, ◌+◌, get_or}
+use Rattle.std.specs.Prelude.{Option, Some, None, IfSome, IsNone}
+use mathlib.Core.Logic.{inl, inr}
 use Rattle.candidates.proofs.Masks.{has-below}
+use Rattle.consistency.specs.internal.Solution.{Solution}
+use Rattle.folding.proofs.Left.{among-solution, solution-among}
 use Rattle.folding.proofs.tried.Goals as goal
 
-pub returns : goal.returns
-returns c =
-    let start = c in
-    let a = start.args in
+pub returns-in-Some : goal.returns-in-Some
+returns-in-Some c =
+    let a = c.args in
+    inr (c.without-rest.ensures, among-solution a.domain.now a.pairs.now c.among-narrowed.result a.size c.without-rest.result c.among-narrowed.ensures _ c.in-Some.ensures.some)
+
+pub returns-in-None : goal.returns-in-None
+returns-in-None c =
+    let a = c.args in
     let marks = c.without-rest.ensures in
     inl (
       refl,
       (λ at w.
-          false≢true
-          (sym c.if-folds.false
-          ∙ c.folds.ensures.1
-          (w.0, w.1, λ r h. (marks.1 (w.0 r) (has-below a.size a.left (w.0 r) start.requires.2 (w.2 r h).0)).1 (w.2 r h)))),
+          c.in-None.ensures.none refl w.0
+          (solution-among a.domain.now a.pairs.now c.among-narrowed.result a.size c.without-rest.result c.among-narrowed.ensures
+          (w.0, w.1, λ r h. (marks.1 (w.0 r) (has-below a.size a.state.left (w.0 r) c.requires.2 (w.2 r h).0)).1 (w.2 r h)))),
     )

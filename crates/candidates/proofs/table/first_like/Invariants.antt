@@ -1,10 +1,10 @@
--- `repeats` tells whether a row is the same as an earlier one. The invariant: as none of those passed.
+-- `first_like` finds the first row that is the same. The invariant: as none of those passed.
 -- Assumes nothing.
 use mathlib.Core.Path.{◌≡◌}
 use Prim.Native.Nat.{ℕ, ◌*◌, ◌<◌}
 use lib.ListN.{get_or}
 use Rattle.candidates.specs.internal.Candidates.{SameRow}
-use Rattle.candidates.proofs.table.repeats.Given as goal
+use Rattle.candidates.proofs.table.first_like.Given as goal
 
 abbrev pub invariant-loop-e : goal.invariant-loop-e
 invariant-loop-e l =

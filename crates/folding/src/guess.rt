@@ -1,0 +1,85 @@
+// Guessing a mapping into fewer rows: row i goes to another row, and with it only what must. What is guessed is tested: nothing is asked of a guess.
+ghost use Rattle.std.specs.Prelude.{IfSome, ℕ, ◌+◌, ◌≤◌, ◌<◌, get_or};
+ghost use Rattle.consistency.specs.internal.Solution.{Solution};
+ghost use Rattle.consistency.specs.internal.Consistent.{Below};
+
+use candidates::table::first_like;
+use search::solves;
+
+// Each row as it stands, or the first that is the same: the first mapping of a query into those of its rows that repeat none.
+pub fn originals(target: &[u32; 200], offered: [u8; 24], size: usize) -> [u8; 13]
+    requires { size ≤ 12 }
+{
+    let mut all = [0u8; 13];
+    for (d, e) in all[..size].iter_mut().enumerate() {
+        *e = first_like(target, offered, d) as u8;
+    }
+    all
+}
+
+// Where the rows that are left go if row i goes to row d: each stays where it can, or goes to the first row that it can go to. None where one can go nowhere.
+fn moves(
+    domain: &[u32; 13],
+    pairs: &[u32; 4056],
+    size: usize,
+    rest: u32,
+    i: usize,
+    d: usize,
+) -> Option<[u8; 13]>
+    requires { (size ≤ 12) × (i < size) × (d < size) }
+{
+    let mut step = [0u8; 13];
+    for (q, e) in step[..size].iter_mut().enumerate() {
+        let open = domain[q] & pairs[(i * 24 + d) * 13 + q];
+        if (rest >> q) % 2 == 1 {
+            if open == 0 {
+                return None;
+            }
+            *e = if (open >> q) % 2 == 1 {
+                q as u8
+            } else {
+                open.trailing_zeros() as u8
+            };
+        }
+    }
+    step[i] = d as u8;
+    Some(step)
+}
+
+// The one choice after the other, as a choice. The head stays.
+fn followed(fold: [u8; 13], step: [u8; 13], size: usize) -> [u8; 13]
+    requires { size ≤ 12 }
+    ensures { Below result }
+{
+    let mut all = [0u8; 13];
+    for (q, e) in all[..size].iter_mut().enumerate() {
+        *e = step[usize::from(fold[q]).min(12)].min(23);
+    }
+    all
+}
+
+// A solution guessed from one into the rows that are left: row i goes elsewhere. None says nothing.
+pub fn guess(
+    domain: &[u32; 13],
+    pairs: &[u32; 4056],
+    size: usize,
+    fold: [u8; 13],
+    rest: u32,
+    i: usize,
+) -> Option<[u8; 13]>
+    requires { (size ≤ 12) × (i < size) }
+    ensures { IfSome result (λ chosen. Solution (size + 1) domain.now pairs.now (λ r. get_or chosen r 0)) }
+{
+    // Kept as it is: d is a row's number and a bit of the mask, and indexes nothing here.
+    for d in 0..size {
+        if (domain[i] >> d) % 2 == 1 {
+            if let Some(step) = moves(domain, pairs, size, rest, i, d) {
+                let next = followed(fold, step, size);
+                if solves(domain, pairs, size + 1, next) {
+                    return Some(next);
+                }
+            }
+        }
+    }
+    None
+}
