@@ -65,8 +65,8 @@ pub fn distinct(target: &[u32], offered: [u8; 24], count: usize) -> u32
     marks_where(count, |d| !repeats(target, offered, d))
 }
 
-// Whether row r can go to candidate d at all: a row of the same relation, one of `fresh`, the first of their like, with the row's constants in their places
-// and one entry for each of its variables. Where no variable stands twice in the row, `plain`, that is so.
+// Whether row r can go to candidate d at all: a row of the same relation, the first of its like, of which `fresh` are the numbers, with the row's constants
+// in their places and one entry for each of its variables, as it has where no variable stands twice in the row, `plain`.
 fn possible(
     source: &[u32],
     target: &[u32],
@@ -95,7 +95,7 @@ fn possible(
     plain || agrees(source, target, row, image, row, image)
 }
 
-// The candidates of row r.
+// The candidates of row r, where `fresh` are the rows of the target that are no repeats.
 fn domain(
     source: &[u32],
     target: &[u32],

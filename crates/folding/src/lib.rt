@@ -115,6 +115,8 @@ pub fn kept(q: Query) -> u32
     requires { Readable q }
     ensures { (schema : List ℕ) → Narrow schema → good_query schema q ≡ true → IsKept schema q result }
 {
+    // Kept as it is: made first, since an array is blanked as the function begins too, and here that is once.
+    let mut pairs = [0u32; 4056];
     let size = q.size as usize;
     let target = tableaux::from_query(q);
     let line: [Cell; 104] = flat(&q.cells, &q.head);
@@ -123,7 +125,6 @@ pub fn kept(q: Query) -> u32
     let to = codes_of(&cells);
     let offered = target.relations;
     let domain = domains(&from, &to, q.relations, offered, size, size);
-    let mut pairs = [0u32; 4056];
     table(&mut pairs, &from, &to, size, size);
     let links = all_links(&domain, &pairs, size + 1);
     let open = consistent(&domain, &pairs, &links, size + 1);

@@ -22,13 +22,31 @@ fn read_full(input: &mut impl Read, buffer: &mut [u8]) -> io::Result<usize>
     Ok(n)
 }
 
+// Writes the listing of a file to standard output: 21,616 bytes are room for the longest.
 // It has no `ensures`, since there is nothing that one could name: no clause says which bytes reach or leave the system. `read_full` promises how many bytes
 // it has put into the buffer, not that they are the input's, and `write_all` nothing of what it has written. Between them stands `report::report`, which
 // promises `IsReport` of these bytes.
-fn main(rt: HostRuntime) -> io::Result<()> {
-    let mut file = [0u8; 65536];
-    let n = read_full(&mut rt.stdin(), &mut file)?;
-    let mut listing = [0u8; 65536];
-    let end = report::report(&file[..n], &mut listing);
+fn write_listing(rt: &HostRuntime, file: &[u8]) -> io::Result<()> {
+    let mut listing = [0u8; 21616];
+    let end = report::report(file, &mut listing);
     rt.write_all(&listing[..end])
+}
+
+// The same for a file that is longer than any that is not refused: what has been read of it, and the rest up to 65,536 bytes.
+fn write_long(rt: &HostRuntime, first: &[u8; 4446]) -> io::Result<()> {
+    let mut file = [0u8; 65536];
+    let (head, rest) = file.split_at_mut(4446);
+    head.copy_from_slice(first);
+    let more = read_full(&mut rt.stdin(), rest)?;
+    write_listing(rt, &file[..4446 + more])
+}
+
+// A file that is not refused has at most 4,445 bytes: no more room is made for it.
+fn main(rt: HostRuntime) -> io::Result<()> {
+    let mut file = [0u8; 4446];
+    let n = read_full(&mut rt.stdin(), &mut file)?;
+    if n == 4446 {
+        return write_long(&rt, &file);
+    }
+    write_listing(&rt, &file[..n])
 }
