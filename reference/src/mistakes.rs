@@ -7,7 +7,7 @@ use crate::database::{first_broken, test, words, Fact, Tested};
 use crate::file::read;
 use crate::generate::{file, record_with_joins};
 use crate::judge::judge;
-use crate::listing::place_text;
+use crate::listing::{list, place_text};
 use crate::mapping::{find, image};
 use crate::random::Random;
 use crate::record::*;
@@ -288,15 +288,28 @@ fn wrong_list(m: Mistake, record: &Record) -> String {
     text
 }
 
-#[test]
-fn generated_files_show_up_mistakes() {
-    let records: Vec<(Vec<u8>, Record)> =
-        (0..1500).map(|k| file(3, k)).filter_map(|f| read(&f).ok().map(|r| (f, r))).collect();
-    let wrong = |m| records.iter().filter(|(f, r)| judge(f, wrong_list(m, r).as_bytes()).is_err()).count();
+fn files_show_up(mistakes: &[Mistake]) {
+    let files = (0..1500).map(|k| file(3, k));
+    let records: Vec<(Vec<u8>, Record, String)> = files.filter_map(|f| read(&f).ok().map(|r| (f.clone(), r, list(&f)))).collect();
+    let wrong = |m| {
+        // The reference's own listing is right.
+        let is_wrong = |f: &[u8], text: &str, right: &str| text != right && judge(f, text.as_bytes()).is_err();
+        records.iter().filter(|(f, r, right)| is_wrong(f, &wrong_list(m, r), right)).count()
+    };
     assert_eq!(wrong(Nothing), 0);
-    let found: Vec<(Mistake, usize)> = OF_LISTING.iter().chain(&OF_ROWS).map(|&m| (m, wrong(m))).collect();
+    let found: Vec<(Mistake, usize)> = mistakes.iter().map(|&m| (m, wrong(m))).collect();
     println!("{found:?} of {}", records.len());
     assert!(found.iter().all(|&(_, n)| n >= 5), "{found:?}");
+}
+
+#[test]
+fn generated_files_show_up_mistakes() {
+    files_show_up(&OF_LISTING);
+}
+
+#[test]
+fn generated_files_show_up_mistakes_in_rows() {
+    files_show_up(&OF_ROWS);
 }
 
 /// The reductions of vectors show up the mistakes in which rows stay and in their order.
