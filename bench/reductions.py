@@ -4,8 +4,8 @@
 usage: bench/reductions.py [LISTING [PLAIN [CAREFUL]]]    (default: crates/listing/out/listing, which `rt run` in crates/listing makes, and
 spernevan-reference and careful in reference/target/release, which `cargo build --offline --release` makes in reference/)
 
-The plain program is the reference, written to be right at sight; the careful one, reference/src/bin/careful.rs, is written for speed. Each query is written as a
-file with one filled place, and all three list it: read, reduce, write. Their start is included; the line without a query shows it. The columns are the
+The plain program is the reference, written to be right at sight; the careful one, reference/src/bin/careful.rs, is written for speed. Each query is written
+as a file with one filled place, and all three list it: read, reduce, write. Their start is included; the line without a query shows it. The columns are the
 instructions of the listing program, of the plain one and of the careful one, and how many times those of the plain and of the careful one the first are.
 """
 import re

@@ -12,8 +12,8 @@ pub struct Reduced {
     pub mapping: Option<Mapping>,
 }
 
-/// Rows are tried from the last position to the first, once each. A row goes if what is left with it maps into what is left without it; the query maps into what
-/// is left all along, so it is the same to ask for a mapping from the whole query. The rows that stay are sorted.
+/// Rows are tried from the last position to the first, once each. A row goes if what is left with it maps into what is left without it; to ask for a mapping
+/// from the whole query is the same, since that maps into what is left all along. The rows that stay are sorted.
 pub fn core(query: &Query) -> Query {
     let mut kept = query.clone();
     for k in (0..query.rows.len()).rev() {

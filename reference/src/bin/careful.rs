@@ -1,5 +1,5 @@
-//! `careful list < FILE`: the listing of FILE, written for speed, to count the engine's instructions beside. Entries are numbers, sets of rows are bits, and the
-//! search asks for no memory. Reading and the chase are the library's; reducing and printing are its own, and so are the mappings that it prints.
+//! `careful list < FILE`: the listing of FILE, written for speed, to count the engine's instructions beside. Entries are numbers, sets of rows are bits, and
+//! the search asks for no memory. Reading and the chase are the library's; reducing and printing are its own, and so are the mappings that it prints.
 
 use spernevan_reference::chase::chase;
 use spernevan_reference::file::read;
@@ -244,11 +244,7 @@ fn list(file: &[u8]) -> Vec<u8> {
         }
         rows.reduce(&mut images[..count]);
         let kept = &mut [0; MAX_ROWS][..rows.left.count_ones() as usize];
-        let mut left = rows.left;
-        for row in kept.iter_mut() {
-            *row = left.trailing_zeros() as usize;
-            left &= left - 1;
-        }
+        kept.iter_mut().zip(Bits(rows.left)).for_each(|(row, k)| *row = k);
         kept.sort_unstable_by(|&a, &b| chased.query.rows[a].cmp(&chased.query.rows[b]));
         put(&mut out, " kept ", kept.len());
         put(&mut out, " replaced ", chased.count);
