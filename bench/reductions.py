@@ -1,10 +1,12 @@
 #!/usr/bin/env python3
-"""Counts the instructions of reductions beside the plain implementation, by valgrind's callgrind.
+"""Counts the instructions of reductions beside two programs without proofs, by valgrind's callgrind.
 
-usage: bench/reductions.py [LISTING [PLAIN]]    (default: crates/listing/out/listing, which `rt run` in crates/listing makes, and
-reference/target/release/spernevan-reference, which `cargo build --offline --release` makes in reference/)
+usage: bench/reductions.py [LISTING [PLAIN [CAREFUL]]]    (default: crates/listing/out/listing, which `rt run` in crates/listing makes, and
+spernevan-reference and careful in reference/target/release, which `cargo build --offline --release` makes in reference/)
 
-Each query is written as a file with one filled place, and both programs list it: read, reduce, write. Their start is included.
+The plain program is the reference, written to be right at sight; the careful one, reference/src/bin/careful.rs, is written for speed. Each query is written
+as a file with one filled place, and all three list it: read, reduce, write. Their start is included; the line without a query shows it. The columns are the
+instructions of the listing program, of the plain one and of the careful one, and how many times those of the plain and of the careful one the first are.
 """
 import re
 import subprocess
@@ -27,6 +29,7 @@ def cases():
     yield 'even wheel of 6', [2], edges(wheel(6)), []
     yield 'many walks', [2], edges(HILL_B), []
     yield 'one row twelve times', [2], edges([(0, 1)] * 12), []
+    yield 'no query', [2], None, []
 
 
 def instructions(command, data):
@@ -37,12 +40,14 @@ def instructions(command, data):
 
 
 def main():
-    listing = sys.argv[1] if len(sys.argv) > 1 else 'crates/listing/out/listing'
-    plain = sys.argv[2] if len(sys.argv) > 2 else 'reference/target/release/spernevan-reference'
+    programs = ['crates/listing/out/listing', 'reference/target/release/spernevan-reference', 'reference/target/release/careful']
+    given = sys.argv[1:]
+    listing, plain, careful = given + programs[len(given):]
+    print('   listing       plain     careful   plain  careful   (millions; times)')
     for name, widths, rows, head in cases():
-        data = archive(widths, [], [part(rows, head)])
-        ours, theirs = instructions([listing], data), instructions([plain, 'list'], data)
-        print('%6.2f million  %6.2f million  %5.2f times  %s' % (ours / 1e6, theirs / 1e6, ours / theirs, name))
+        data = archive(widths, [], [] if rows is None else [part(rows, head)])
+        n, p, c = [instructions(command, data) / 1e6 for command in ([listing], [plain, 'list'], [careful, 'list'])]
+        print('%10.3f  %10.3f  %10.3f  %6.2f  %7.2f   %s' % (n, p, c, n / p, n / c, name))
 
 
 if __name__ == "__main__":

@@ -17,7 +17,7 @@ from types import SimpleNamespace
 from unittest import mock
 
 import context
-from context import LONG, MANY, plain_answers, plain_broken, random_data, random_query, random_record, rule
+from context import LONG, MANY, plain_answers, plain_broken, plain_short, random_data, random_query, random_record, rule
 from spernevan import Broken, Constant, Query, Record, Refused, Row, Variable, engine
 
 EXAMPLE = bytes.fromhex(
@@ -48,10 +48,11 @@ class Calls(unittest.TestCase):
 
 class Examples(Calls):
     def test_p1_p2(self):
+        first, second = Row(0, (v(0), v(1))), Row(0, (v(0), v(2)))
         got = self.reduced([2], "ans(v0) :- R0(v0, v1), R0(v0, v2)")
-        self.assertEqual((len(got.result.rows), got.replaced), (1, 0))
+        self.assertEqual((got.result, got.replaced), (Query((v(0),), (first,)), 0))
         got = self.reduced([2], "ans(v0, v1, v2) :- R0(v0, v1), R0(v0, v2)")
-        self.assertEqual((len(got.result.rows), got.replaced), (2, 0))
+        self.assertEqual((got.result, got.replaced), (Query((v(0), v(1), v(2)), (first, second)), 0))
 
     def test_p3(self):
         got = self.reduced([2], "ans(v0, v1, v2) :- R0(v0, v1), R0(v0, v2)", (0, [0], 1))
@@ -63,16 +64,42 @@ class Examples(Calls):
         got = self.reduced([2], "ans(v0) :- R0(v0, 3), R0(v0, 4)", (0, [0], 1))
         self.assertEqual((got.result, got.replaced, got.mapping), (Query.never(1), 0, None))
         got = self.reduced([2], "ans(v0) :- R0(v0, 3), R0(v0, 4)")
-        self.assertEqual(len(got.result.rows), 2)
+        self.assertEqual(got.result, Query((v(0),), (Row(0, (v(0), Constant(3))), Row(0, (v(0), Constant(4))))))
 
     def test_p6(self):
         got = self.reduced([3], "ans(v0) :- R0(v0, v1, v2), R0(v0, v3, v4)", (0, [1], 2), (0, [0], 1))
-        self.assertEqual((len(got.result.rows), got.replaced), (1, 2))
+        self.assertEqual((got.result, got.replaced), (Query((v(0),), (Row(0, (v(0), v(1), v(2))),)), 2))
 
     def test_p7_p8(self):
         cycle = "ans() :- R0(v0, v1), R0(v1, v2), R0(v2, v0)"
-        self.assertEqual(len(self.reduced([2], cycle).result.rows), 3)
-        self.assertEqual(len(self.reduced([2], cycle + ", R0(v3, v3)").result.rows), 1)
+        rows = tuple(Row(0, (v(a), v(b))) for a, b in ((0, 1), (1, 2), (2, 0), (3, 3)))
+        self.assertEqual(self.reduced([2], cycle).result, Query((), rows[:3]))
+        self.assertEqual(self.reduced([2], cycle + ", R0(v3, v3)").result, Query((), rows[3:]))
+
+    def test_the_rows_that_stay(self):
+        """The last rows are tried first, as they stand in the query."""
+
+        def query(*rows):
+            return Query((v(0),), tuple(Row(0, (v(a), v(b))) for a, b in rows))
+
+        for given, stay in (
+            (query((0, 1), (0, 2)), query((0, 1))),
+            (query((0, 2), (0, 1)), query((0, 2))),
+            (query((0, 3), (0, 1), (0, 2)), query((0, 3))),
+            (query((0, 1), (0, 2), (0, 1)), query((0, 1))),
+            (query((3, 4), (4, 0), (0, 1), (2, 0), (5, 6)), query((0, 1), (3, 4), (4, 0))),
+        ):
+            self.assertEqual(Record.open([2]).put(0, given).shorten(0).result, stay)
+
+    def test_the_order_of_rows(self):
+        """By relation, then by entries from the left, constants before variables, each by number."""
+        rows = [Row(0, (a, v(0))) for a in (Constant(9), Constant(10), Constant(256), Constant(2**31 - 1), v(0), v(1), v(9), v(10))]
+        rows += [Row(0, (v(10), v(1))), Row(1, (Constant(0), v(0))), Row(1, (v(0), Constant(0)))]
+        query = Query((v(0), v(1), v(10), v(9)), tuple(rows))
+        rng = random.Random(5)
+        for _ in range(20):
+            rng.shuffle(rows)
+            self.assertEqual(Record.open([2, 2]).put(3, Query(query.head, tuple(rows))).shorten(3).result, query)
 
     def test_p9_p10(self):
         record = Record.open([2])
@@ -323,7 +350,7 @@ class Random(Calls):
             record = record.put(place, Query(row.entries, (row,) * 12))
         self.assertEqual(len(record.file), 4445)
         self.assertEqual(Record(record.file), record)
-        self.assertEqual(len(record.shorten(7).result.rows), 1)
+        self.assertEqual(record.shorten(7).result, Query(row.entries, (row,)))
 
     def test_reductions_and_comparisons(self):
         rng = random.Random(7)
@@ -339,6 +366,9 @@ class Random(Calls):
                 self.assertEqual(got.record.drop(target), base)
                 self.assertEqual(got.record.queries[target], got.result)
                 self.assertLessEqual(got.replaced, len(query.variables()))
+                never = Query.never(query.head_length)
+                chased = Record.open(record.widths).add_all(record.dependencies).put(0, query).put(1, never).compare(0, 1).chased
+                self.assertEqual(got.result, never if chased is None else plain_short(chased))
                 seen.add(("never", got.result.is_never, query.is_never))
                 if got.mapping is not None:
                     self.assertEqual(sorted(got.mapping), query.variables())

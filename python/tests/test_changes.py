@@ -87,7 +87,7 @@ class Changes(Command):
             self.failed(message, "add", file, given)
 
     def test_reduce(self):
-        rule = "ans(f, h) :- flight(f, s, 7, t), burst(f, h), sonde(s, c, m), calibration(c, l, 2)"
+        rule = "ans(f, h) :- flight(f, s, 7, t), sonde(s, c, m), calibration(c, l, 2), burst(f, h)"
         self.assertEqual(self.done("reduce", self.file, 0), f"{self.file}: place 4 holds the short form of place 0, 4 rows: {rule}\n")
         unpacked = self.done("unpack", self.file)
         self.assertIn(f"\n4: f, h, s, t, v4, v5, v6, c, m, v9, v10, l\n4: {rule}\n", unpacked)

@@ -118,7 +118,7 @@ class Calls(Joins):
             # Determined columns and reductions go by the functional dependencies.
             self.assertEqual(record.determined(0, [0]), {0})
             short = record.shorten(0)
-            self.assertEqual((len(short.result.rows), short.replaced), (2, 0))
+            self.assertEqual((short.result, short.replaced), (record.queries[0], 0))
 
     def test_a_clash(self):
         record = Record.open([3]).add_join(0, [[0, 1], [0, 2]]).add(0, [0, 1], 2)
@@ -156,7 +156,7 @@ class Calls(Joins):
             self.assertEqual(self.refused(17, record.compare, over, other), meaning)
         self.refused(8, record.compare, 1, 3)
         self.refused(11, record.compare, 1, 5)
-        self.assertEqual(len(record.shorten(1).result.rows), 1)
+        self.assertEqual(record.shorten(1).result.rows, over.rows[:1])
         self.assertFalse(record.equivalent(0, 2))
         self.assertEqual(self.refused(17, record.equivalent, 1, 0), meaning)
         self.assertEqual(self.refused(17, record.equivalent, 0, 1), meaning.replace("first", "second"))

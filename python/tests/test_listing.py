@@ -132,6 +132,25 @@ class Listings(Program):
             "place 7 rows 1 kept 1 replaced 0", "head v0", "row 0 v0 v1", "map v0=v0 v1=v1",
         )
 
+    def test_rows_that_stay(self):
+        """The last rows are tried first, as they stand in the query."""
+        for rows, stays in (("12", "1"), ("21", "2"), ("312", "3"), ("121", "1"), ("211", "2")):
+            images = " ".join(f"v{n}=v{stays}" for n in sorted(set(rows)))
+            self.lines(
+                file(R, NONE, part("v0", *[f"0 v0 v{n}" for n in rows])),
+                f"place 0 rows {len(rows)} kept 1 replaced 0", "head v0", f"row 0 v0 v{stays}", f"map v0=v0 {images}",
+            )
+
+    def test_order_of_rows(self):
+        """By relation, then by entries from the left, constants before variables, each by number."""
+        rows = "0 9 v0", "0 10 v0", "0 256 v0", "0 2147483647 v0", "0 v0 v1", "0 v0 v9", "0 v0 v10", "0 v1 v0", "1 0 v0 v0", "1 v0 0 v0", "1 v0 v0 0"
+        head = "v9 v10 v1"
+        for given in rows, rows[::-1], rows[1::2] + rows[::2]:
+            self.lines(
+                file(b"\x02\x02\x03", NONE, part(head, *given)),
+                "place 0 rows 11 kept 11 replaced 0", f"head {head}", *[f"row {row}" for row in rows], "map v0=v0 v1=v1 v9=v9 v10=v10",
+            )
+
     def test_join_dependencies(self):
         """They change nothing in a listing."""
         repeated = part("v0", "0 v0 v1", "0 v0 v1", "0 v2 v3")
@@ -150,7 +169,7 @@ class Listings(Program):
         for place in range(8):
             mine = said[5 * place : 5 * place + 5]
             self.assertEqual(mine[:2], [f"place {place} rows 12 {kept[0]}", kept[1]])
-            self.assertEqual(sorted(mine[2:4]), sorted([f"row {row}", "row 7" + " v95" * 8]))
+            self.assertEqual(mine[2:4], [f"row {row}", "row 7" + " v95" * 8])
             self.assertEqual(mine[4], "map v95=v95")
 
 

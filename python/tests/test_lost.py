@@ -313,8 +313,8 @@ class Parting(Lost):
         self.assertIn("0: ans(f, h) :-\n    flight(f, s, 7, t)", self.done("unpack", self.file))
         short = Record.read(self.file).reduce(0, 4).record
         short.write(self.file)
-        self.assertIn("sonde(s, c, _),\n                 calibration(c, _, 2)\n", self.done("show", self.file, 4))
-        self.assertIn("burst(f, h), sonde(s, c, m), calibration(c, l, 2)\n", self.done("unpack", self.file))
+        self.assertIn("sonde(s, c, _),\n                 calibration(c, _, 2),\n                 burst(f, h)\n", self.done("show", self.file, 4))
+        self.assertIn("sonde(s, c, m), calibration(c, l, 2), burst(f, h)\n", self.done("unpack", self.file))
 
     def test_a_dictionary_without_names(self):
         record = Record.open([2])

@@ -129,7 +129,7 @@ class Commands(Command):
 
     def test_json(self):
         found = json.loads(self.done("define", FLIGHTS, 0, "--format", "json"))
-        self.assertEqual(found["short"]["rule"], "ans(f, h) :- flight(f, s, 7, _), burst(f, h), sonde(s, c, _), calibration(c, _, 2)")
+        self.assertEqual(found["short"]["rule"], "ans(f, h) :- flight(f, s, 7, _), sonde(s, c, _), calibration(c, _, 2), burst(f, h)")
         self.assertEqual(found["mapping"]["p"], 7)
         self.assertEqual((len(found["images"]), len(found["kept"]), found["replaced"], found["place"]), (7, 7, 6, 0))
         self.assertEqual(found["dependencies"], [])

@@ -1,7 +1,7 @@
 """vectors: holds the exported calls to vectors of the reference, read on standard input, a vector a line (reference/README.md has the format).
 
 Writes for each call how many vectors were tried and how many were wrong, with the numbers of the first lines that were. Ends with 1 if one was.
-What is free in a reduction or a comparison is judged by what it has to meet; all else to the byte, lent buffers included.
+The mapping of a reduction or a comparison is judged by what it has to meet; all else to the byte, lent buffers included.
 """
 
 import ctypes
@@ -218,18 +218,13 @@ def reduced(file, source, target):
     return 0, bytes(out[: size.value]), count.value, list(mapping[: engine.MAPPING_WORDS]), alone
 
 
-def result_right(file, source, target, result, mapping, rows, query):
-    """Whether a reduction's file and mapping are as they may be: the rows are different rows of the chased query, as many as told, under its head."""
-    if left("drop", result, target) != (0, file, True) or chased(without_joins(file), source) != query:
+def result_right(file, source, target, result, mapping, query):
+    """Whether a reduction's file and mapping are as they may be: the target holds the query that is told, and the mapping is one to it."""
+    if left("drop", result, target) != (0, file, True) or part_at(result, target) != query:
         return False
-    widths = parts_of(file)[0][1:]
-    head, kept = rows_of(widths, part_at(result, target))
-    due, offered = rows_of(widths, query)
-    if part_at(result, target)[0] != query[0] or len(kept) != rows or len(set(kept)) != rows or not set(kept) <= set(offered):
-        return False
-    if rows == 0:
+    if rows_at(result, target) == 0:
         return mapping == NO_MAPPING
-    return head == due and is_mapping(result, target, source, mapping)
+    return is_mapping(result, target, source, mapping)
 
 
 # ---- a vector of each call: whether the engine answers as it tells
@@ -258,12 +253,12 @@ def leaves_file(name, line, *given):
 
 def reduce(line, file):
     source, target, told = line.number(), line.number(), line.number()
-    count, rows, query = (None, None, None) if told else (line.number(), line.number(), line.bytes())
+    count, query = (None, None) if told else (line.number(), line.bytes())
     line.end()
     number, result, counted, mapping, alone = reduced(file, source, target)
     if number != told or not alone:
         return False
-    return told != 0 or (counted == count and result_right(file, source, target, result, mapping, rows, query))
+    return told != 0 or (counted == count and result_right(file, source, target, result, mapping, query))
 
 
 def compare(line, file):

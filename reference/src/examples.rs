@@ -1,4 +1,4 @@
-//! The examples of SPECIFICATION, Examples, and some that single out each rule of join dependencies.
+//! The examples of SPECIFICATION, Examples, and some that single out each rule of reduction and of join dependencies.
 
 use crate::chase::chase_with_joins;
 use crate::closure::determined;
@@ -85,12 +85,11 @@ fn reduced(deps: &[(u8, u8, u8)], query: Query) -> Reduced {
 fn p1_p2_p3() {
     let rows = [(R, "v0 v1"), (R, "v0 v2")];
     let p1 = reduced(&[], q("v0", &rows));
-    assert_eq!((p1.result.rows.len(), p1.count), (1, 0));
+    assert_eq!((p1.result, p1.count), (q("v0", &rows[..1]), 0));
     let p2 = reduced(&[], q("v0 v1 v2", &rows));
-    assert_eq!((p2.result.rows.len(), p2.count), (2, 0));
+    assert_eq!((p2.result, p2.count), (q("v0 v1 v2", &rows), 0));
     let p3 = reduced(&[(R, 1, 1)], q("v0 v1 v2", &rows));
-    assert_eq!((p3.result.rows.len(), p3.count), (1, 1));
-    assert_eq!(p3.result.head, es("v0 v1 v1"));
+    assert_eq!((p3.result, p3.count), (q("v0 v1 v1", &rows[..1]), 1));
 }
 
 #[test]
@@ -98,22 +97,64 @@ fn p4_p5() {
     let query = q("v0", &[(R, "v0 3"), (R, "v0 4")]);
     let p4 = reduced(&[(R, 1, 1)], query.clone());
     assert_eq!((p4.result, p4.count), (Query::never(1), 0));
-    let p5 = reduced(&[], query);
-    assert_eq!((p5.result.rows.len(), p5.count), (2, 0));
+    let p5 = reduced(&[], query.clone());
+    assert_eq!((p5.result, p5.count), (query, 0));
 }
 
 #[test]
 fn p6() {
     let p6 = reduced(&[(S, 2, 2), (S, 1, 1)], q("v0", &[(S, "v0 v1 v2"), (S, "v0 v3 v4")]));
-    assert_eq!((p6.result.rows.len(), p6.count), (1, 2));
+    assert_eq!((p6.result, p6.count), (q("v0", &[(S, "v0 v1 v2")]), 2));
 }
 
 #[test]
 fn p7_p8() {
     let mut rows = vec![(R, "v0 v1"), (R, "v1 v2"), (R, "v2 v0")];
-    assert_eq!(reduced(&[], q("", &rows)).result.rows.len(), 3);
+    assert_eq!(reduced(&[], q("", &rows)).result, q("", &rows));
     rows.push((R, "v3 v3"));
-    assert_eq!(reduced(&[], q("", &rows)).result.rows.len(), 1);
+    assert_eq!(reduced(&[], q("", &rows)).result, q("", &rows[3..]));
+}
+
+/// The rows of a result of reduction without dependencies.
+fn kept(head: &str, all: &[(u8, &str)]) -> Vec<Row> {
+    reduced(&[], q(head, all)).result.rows
+}
+
+#[test]
+fn the_last_rows_are_tried_first() {
+    assert_eq!(kept("v0", &[(R, "v0 v1"), (R, "v0 v2")]), rows(&[(R, "v0 v1")]));
+    // Where they stand, not as they are sorted.
+    assert_eq!(kept("v0", &[(R, "v0 v2"), (R, "v0 v1")]), rows(&[(R, "v0 v2")]));
+    // Each once, those after a row that goes or stays too.
+    assert_eq!(kept("v0", &[(R, "v0 v3"), (R, "v0 v1"), (R, "v0 v2")]), rows(&[(R, "v0 v3")]));
+    assert_eq!(kept("v0", &[(R, "v0 v1"), (R, "v0 v2"), (S, "v0 v3 v3"), (R, "v0 v4")]), rows(&[(R, "v0 v1"), (S, "v0 v3 v3")]));
+    // One at a time: that all three rows can go to the second doesn't take the first away.
+    assert_eq!(kept("", &[(R, "v0 v1"), (R, "v2 v3"), (R, "v4 v5")]), rows(&[(R, "v0 v1")]));
+    // A repeated row is tried where it stands first.
+    assert_eq!(kept("v0", &[(R, "v0 v1"), (R, "v0 v2"), (R, "v0 v1")]), rows(&[(R, "v0 v1")]));
+    assert_eq!(kept("v0", &[(R, "v0 v2"), (R, "v0 v1"), (R, "v0 v1")]), rows(&[(R, "v0 v2")]));
+    // A row that the others go to stays wherever it stands.
+    assert_eq!(kept("", &[(R, "v0 v1"), (R, "v1 v2"), (R, "3 3")]), rows(&[(R, "3 3")]));
+}
+
+#[test]
+fn kept_rows_are_sorted() {
+    // By relation before entries.
+    assert_eq!(kept("v0 v1", &[(S, "v0 v0 v1"), (R, "v1 v0")]), rows(&[(R, "v1 v0"), (S, "v0 v0 v1")]));
+    // From the left.
+    assert_eq!(kept("v0 v1", &[(R, "v1 v0"), (R, "v0 v1")]), rows(&[(R, "v0 v1"), (R, "v1 v0")]));
+    assert_eq!(kept("v0 v1 v2", &[(R, "v0 v2"), (R, "v0 v1")]), rows(&[(R, "v0 v1"), (R, "v0 v2")]));
+    // Constants before variables of whatever number.
+    assert_eq!(kept("v0", &[(R, "v0 v0"), (R, "7 v0")]), rows(&[(R, "7 v0"), (R, "v0 v0")]));
+    // By number, not as text or by the lowest byte.
+    let numbers = [(R, "256 v0"), (R, "2147483647 v0"), (R, "10 v0"), (R, "9 v0")];
+    assert_eq!(kept("v0", &numbers), rows(&[numbers[3], numbers[2], numbers[0], numbers[1]]));
+    assert_eq!(kept("v9 v10", &[(R, "v10 v9"), (R, "v9 v10")]), rows(&[(R, "v9 v10"), (R, "v10 v9")]));
+    // Variables of the head among the others.
+    assert_eq!(kept("v5", &[(R, "v5 v6"), (R, "v2 v5")]), rows(&[(R, "v2 v5"), (R, "v5 v6")]));
+    // After the chase: v8 became 3.
+    let after = reduced(&[(R, 1, 1)], q("v5 v9", &[(S, "v5 v5 v5"), (S, "v8 v5 v5"), (R, "v9 3"), (R, "v9 v8")])).result;
+    assert_eq!(after, q("v5 v9", &[(R, "v9 3"), (S, "3 v5 v5"), (S, "v5 v5 v5")]));
 }
 
 #[test]
@@ -397,7 +438,7 @@ fn comparison_by_a_join_dependency() {
     assert!(matches!(compare(&record(&[], &[crossed, straight]), 0, 1), Ok(Verdict::NotContained(_))));
     // Reduction and determined columns read functional dependencies only.
     let (_, reduced) = reduce(&all, 0, 2).unwrap();
-    assert_eq!((reduced.result.rows.len(), reduced.count), (2, 0));
+    assert_eq!((reduced.result, reduced.count), (all.places[0].clone().unwrap(), 0));
     assert_eq!(determined(&with_joins(&[AB_TO_C], &[AB_AC], &[]), S, 1), Ok((1, 1)));
 }
 

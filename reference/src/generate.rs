@@ -128,6 +128,20 @@ pub fn renumber(r: &mut Random, query: &Query) -> Query {
     })
 }
 
+/// The record with other constants in its queries: some of one, two, three and four bytes, that come in another order by their first bytes or as text.
+pub fn with_long_constants(r: &mut Random, record: &Record) -> Record {
+    let mut numbers = [0, 2, 9, 10, 99, 255, 256, 257, 1000, 65_535, 65_536, 16_777_216, MAX_CONSTANT];
+    r.shuffle(&mut numbers);
+    let mut out = record.clone();
+    for query in out.places.iter_mut().flatten() {
+        *query = substitute(query, |e| match e {
+            Constant(c) => Constant(numbers.get(c as usize).copied().unwrap_or(c)),
+            v => v,
+        });
+    }
+    out
+}
+
 fn unused(query: &Query) -> Vec<u8> {
     let used = query.variables();
     (0..VARIABLES as u8).filter(|v| !used.contains(v)).collect()
@@ -938,7 +952,11 @@ pub fn damaged(r: &mut Random) -> Vec<u8> {
 pub fn file(seed: u64, k: u64) -> Vec<u8> {
     let mut start = Random::new(seed);
     let mut r = Random::new(start.next() ^ k.wrapping_mul(0xD134_2543_DE82_EF95));
-    if k % 5 < 3 { bytes(&record(&mut r)) } else { damaged(&mut r) }
+    if k % 5 >= 3 {
+        return damaged(&mut r);
+    }
+    let record = record(&mut r);
+    bytes(&if r.percent(20) { with_long_constants(&mut r, &record) } else { record })
 }
 
 #[cfg(test)]

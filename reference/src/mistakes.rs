@@ -7,13 +7,13 @@ use crate::database::{first_broken, test, words, Fact, Tested};
 use crate::file::read;
 use crate::generate::{file, record_with_joins};
 use crate::judge::judge;
-use crate::listing::place_text;
-use crate::mapping::find;
+use crate::listing::{list, place_text};
+use crate::mapping::{find, image};
 use crate::random::Random;
 use crate::record::*;
 use crate::record::Entry::{Constant, Variable};
 use crate::reduction::core;
-use crate::vectors::{any_facts, related_record};
+use crate::vectors::{any_facts, any_reduction, related_record};
 
 #[derive(Clone, Copy, PartialEq, Debug)]
 enum Mistake {
@@ -38,13 +38,35 @@ enum Mistake {
     ConstantsMapped,
     AlwaysNever,
     MapOfTheChased,
+    // Of the rows that are tried
+    LowestFirst,
+    SortedFirst,
+    LastRepeatStays,
+    NextNotTried,
+    NoneAfterOne,
+    AllOutsideTheImage,
+    // Of the order
+    NotSorted,
+    HighestFirst,
+    ByRelationAlone,
+    ByEntriesAlone,
+    FromTheRight,
+    VariablesFirst,
+    KindsMixed,
+    HeadVariablesFirst,
+    AsText,
+    AsInTheFile,
 }
 use Mistake::*;
 
-const ALL: [Mistake; 20] = [
+const OF_LISTING: [Mistake; 20] = [
     WalkOnce, NotInTheHead, OnlyInTheRow, HeadVariablesApart, LowerSurvives, FirstSurvives, VariableSurvives, NoRestart,
     LaterPairFirst, ClashCountsZero, ClashCountsItself, ClashIgnored, NoChase, RepeatsStay, NoCore, HeadForgotten,
     RelationIgnored, ConstantsMapped, AlwaysNever, MapOfTheChased,
+];
+const OF_ROWS: [Mistake; 16] = [
+    LowestFirst, SortedFirst, LastRepeatStays, NextNotTried, NoneAfterOne, AllOutsideTheImage, NotSorted, HighestFirst,
+    ByRelationAlone, ByEntriesAlone, FromTheRight, VariablesFirst, KindsMixed, HeadVariablesFirst, AsText, AsInTheFile,
 ];
 
 /// All pairs of entries that a dependency makes equal and that differ now, with the second row.
@@ -126,6 +148,79 @@ fn wrong_chase(m: Mistake, deps: &[Dependency], source: &Query) -> (Query, usize
     (query, count)
 }
 
+/// The rows that stay, in the order of the query.
+fn wrong_rows(m: Mistake, query: &Query) -> Vec<Row> {
+    let mut rows = query.rows.clone();
+    match m {
+        SortedFirst => rows.sort(),
+        // A repeated row is tried where it stands last.
+        LastRepeatStays => rows = (0..rows.len()).filter(|&i| !rows[i + 1..].contains(&rows[i])).map(|i| rows[i].clone()).collect(),
+        _ => {}
+    }
+    let mut order: Vec<usize> = (0..rows.len()).rev().collect();
+    if m == LowestFirst {
+        order.reverse();
+    }
+    let mut stays = vec![true; rows.len()];
+    let (mut lost, mut pass) = (false, false);
+    for k in order {
+        if (m == NextNotTried && pass) || (m == NoneAfterOne && lost) || !stays[k] {
+            pass = false;
+            continue;
+        }
+        stays[k] = false;
+        let fewer = Query::new(query.head.clone(), (0..rows.len()).filter(|&i| stays[i]).map(|i| rows[i].clone()).collect());
+        let mapping = find(query, &fewer);
+        pass = mapping.is_some();
+        lost |= pass;
+        match mapping {
+            None => stays[k] = true,
+            Some(mapping) if m == AllOutsideTheImage => {
+                let onto = |row: &Row| Row { relation: row.relation, entries: row.entries.iter().map(|&e| image(&mapping, e)).collect() };
+                let reached: Vec<Row> = rows.iter().map(onto).collect();
+                (0..rows.len()).for_each(|i| stays[i] &= reached.contains(&rows[i]));
+            }
+            Some(_) => {}
+        }
+    }
+    (0..rows.len()).filter(|&i| stays[i]).map(|i| rows[i].clone()).collect()
+}
+
+/// Numbers that are compared from the left in the stead of an entry.
+fn wrong_key(m: Mistake, e: Entry, head: &[Entry]) -> Vec<u32> {
+    let (kind, n) = match e {
+        Constant(n) => (0, n),
+        Variable(v) => (1, v as u32),
+    };
+    match m {
+        VariablesFirst => vec![1 - kind, n],
+        KindsMixed => vec![n, kind],
+        HeadVariablesFirst if kind == 1 => vec![kind, !head.contains(&e) as u32, n],
+        AsText => std::iter::once(kind).chain(n.to_string().bytes().map(|b| b as u32)).collect(),
+        AsInTheFile => std::iter::once(kind).chain(n.to_le_bytes().map(|b| b as u32)).collect(),
+        _ => vec![kind, n],
+    }
+}
+
+fn wrong_order(m: Mistake, head: &[Entry], rows: &mut [Row]) {
+    let entries = |row: &Row| {
+        let mut all: Vec<Vec<u32>> = row.entries.iter().map(|&e| wrong_key(m, e, head)).collect();
+        if m == FromTheRight {
+            all.reverse();
+        }
+        all
+    };
+    match m {
+        NotSorted => {}
+        ByRelationAlone => rows.sort_by_key(|row| row.relation),
+        ByEntriesAlone => rows.sort_by_key(|row| (entries(row), row.relation)),
+        _ => rows.sort_by_key(|row| (row.relation, entries(row))),
+    }
+    if m == HighestFirst {
+        rows.reverse();
+    }
+}
+
 fn wrong_core(m: Mistake, query: &Query) -> Query {
     let mut out = query.clone();
     match m {
@@ -169,8 +264,9 @@ fn wrong_core(m: Mistake, query: &Query) -> Query {
                 least.contains(&renamed) && !seen.contains(r) && { seen.push(r.clone()); true }
             });
         }
-        _ => out = core(query),
+        _ => out.rows = wrong_rows(m, query),
     }
+    wrong_order(m, &query.head, &mut out.rows);
     out
 }
 
@@ -192,15 +288,46 @@ fn wrong_list(m: Mistake, record: &Record) -> String {
     text
 }
 
-#[test]
-fn generated_files_show_up_mistakes() {
-    let records: Vec<(Vec<u8>, Record)> =
-        (0..1500).map(|k| file(3, k)).filter_map(|f| read(&f).ok().map(|r| (f, r))).collect();
-    let wrong = |m| records.iter().filter(|(f, r)| judge(f, wrong_list(m, r).as_bytes()).is_err()).count();
+fn files_show_up(mistakes: &[Mistake]) {
+    let files = (0..1500).map(|k| file(3, k));
+    let records: Vec<(Vec<u8>, Record, String)> = files.filter_map(|f| read(&f).ok().map(|r| (f.clone(), r, list(&f)))).collect();
+    let wrong = |m| {
+        // The reference's own listing is right.
+        let is_wrong = |f: &[u8], text: &str, right: &str| text != right && judge(f, text.as_bytes()).is_err();
+        records.iter().filter(|(f, r, right)| is_wrong(f, &wrong_list(m, r), right)).count()
+    };
     assert_eq!(wrong(Nothing), 0);
-    let found: Vec<(Mistake, usize)> = ALL.iter().map(|&m| (m, wrong(m))).collect();
+    let found: Vec<(Mistake, usize)> = mistakes.iter().map(|&m| (m, wrong(m))).collect();
     println!("{found:?} of {}", records.len());
     assert!(found.iter().all(|&(_, n)| n >= 5), "{found:?}");
+}
+
+#[test]
+fn generated_files_show_up_mistakes() {
+    files_show_up(&OF_LISTING);
+}
+
+#[test]
+fn generated_files_show_up_mistakes_in_rows() {
+    files_show_up(&OF_ROWS);
+}
+
+/// The reductions of vectors show up the mistakes in which rows stay and in their order.
+#[test]
+fn reductions_show_up_mistakes() {
+    let mut r = Random::new(7);
+    let queries: Vec<Query> = (0..1000)
+        .filter_map(|_| {
+            let (record, source, _) = any_reduction(&mut r);
+            let [query] = record.filled([source]).ok()?;
+            Some(chase(&record.dependencies, query).query)
+        })
+        .collect();
+    let wrong = |m| queries.iter().filter(|q| wrong_core(m, q) != core(q)).count();
+    assert_eq!(wrong(Nothing), 0);
+    let found: Vec<(Mistake, usize)> = OF_ROWS.iter().map(|&m| (m, wrong(m))).collect();
+    println!("{found:?} of {}", queries.len());
+    assert!(found.iter().all(|&(_, n)| n >= 3), "{found:?}");
 }
 
 /// Mistakes with join dependencies, in reading a file, in comparing and in testing.

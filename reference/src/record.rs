@@ -32,6 +32,7 @@ pub const JOIN: Refusal = 15;
 pub const FULL_OF_JOINS: Refusal = 16;
 pub const OVERFLOW: Refusal = 17;
 
+/// Constants come before variables, each by number.
 #[derive(Clone, Copy, PartialEq, Eq, PartialOrd, Ord, Hash, Debug)]
 pub enum Entry {
     Constant(u32),
@@ -48,6 +49,7 @@ impl Entry {
     }
 }
 
+/// In the order of a result of reduction: by relation, then by entries from the left.
 #[derive(Clone, PartialEq, Eq, PartialOrd, Ord, Hash, Debug)]
 pub struct Row {
     pub relation: u8,

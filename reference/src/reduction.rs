@@ -1,4 +1,4 @@
-//! Reduction: the chased query without the rows it can do without.
+//! Reduction: the chased query without the rows it can do without, sorted.
 
 use crate::chase::chase;
 use crate::mapping::{find, Mapping};
@@ -12,22 +12,21 @@ pub struct Reduced {
     pub mapping: Option<Mapping>,
 }
 
-/// Takes rows away while the query maps into what is left. Repeated rows go too.
+/// Rows are tried from the last position to the first, once each. A row goes if what is left with it maps into what is left without it; to ask for a mapping
+/// from the whole query is the same, since that maps into what is left all along. The rows that stay are sorted.
 pub fn core(query: &Query) -> Query {
     let mut kept = query.clone();
-    let mut k = 0;
-    while k < kept.rows.len() {
+    for k in (0..query.rows.len()).rev() {
+        // Only rows after position k have gone, so row k still stands there.
         let mut fewer = kept.clone();
         let row = fewer.rows.remove(k);
         // A repeated row goes without a search.
         if fewer.rows.contains(&row) || find(&kept, &fewer).is_some() {
-            // Rows that had to stay still have to: doing without one now would have been
-            // doing without it before.
             kept = fewer;
-        } else {
-            k += 1;
         }
     }
+    // By relation, then by entries from the left.
+    kept.rows.sort();
     kept
 }
 

@@ -94,6 +94,17 @@ fn filled_record(r: &mut Random) -> Record {
     }
 }
 
+/// A record with the places of a reduction.
+pub fn any_reduction(r: &mut Random) -> (Record, u8, u8) {
+    let mut record = filled_record(r);
+    let source = place(r, &record, true);
+    let target = if r.percent(5) { source } else { place(r, &record, false) };
+    if r.percent(50) {
+        record = generate::with_long_constants(r, &record);
+    }
+    (record, source, target)
+}
+
 /// Up to 12 rows of the query that the chase with both kinds of dependencies gives.
 fn some_chased(r: &mut Random, record: &Record, query: &Query) -> Query {
     let Ok(mut chased) = chase_with_joins(&record.dependencies, &record.joins, query) else { return query.clone() };
@@ -400,18 +411,14 @@ fn line(r: &mut Random, call: usize) -> Line {
             out.answer(record.drop_place(p), |out, after| out.record(&after));
         }
         6 => {
-            let record = filled_record(r);
-            let source = place(r, &record, true);
-            let target = if r.percent(5) { source } else { place(r, &record, false) };
+            let (record, source, target) = any_reduction(r);
             out.record(&record);
             out.number(source);
             out.number(target);
             out.answer(reduce(&record, source, target), |out, (after, reduced)| {
-                let chased = chase(&record.dependencies, record.places[source as usize].as_ref().unwrap());
-                assert!(after.is_sound() && chased.count == reduced.count);
+                assert!(after.is_sound());
                 out.number(reduced.count);
-                out.number(reduced.result.rows.len());
-                out.query(&chased.query);
+                out.query(&reduced.result);
             });
         }
         7 => {
@@ -574,7 +581,7 @@ mod tests {
             let refusal = line.number();
             *seen.entry((call, refusal)).or_default() += 1;
             if refusal == 0 {
-                for (at, kind) in ["", "n", "l", "l", "l", "l", "nnl", "nl", "n", "nn", "nnnnnn", "nl", "nl", "l"][call as usize].chars().enumerate() {
+                for (at, kind) in ["", "n", "l", "l", "l", "l", "nl", "nl", "n", "nn", "nnnnnn", "nl", "nl", "l"][call as usize].chars().enumerate() {
                     if kind == 'l' {
                         line.list();
                     } else {
