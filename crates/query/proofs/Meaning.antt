@@ -9,8 +9,8 @@ use lib.Dec.{eqb}
 use lib.ListN.{length, length-map, take, drop, get_or, replicate, length-drop}
 use lib.Seq.{length-take-le, take-add, take-take}
 use Rattle.theory.specs.Query as theory
-use Rattle.lists.specs.Tests.{in_use}
-use Rattle.lists.proofs.Tests.{used-blank, padded}
+use Rattle.lists.specs.Tests.{every}
+use Rattle.lists.proofs.Tests.{used-blank, padded, every_drop}
 use Rattle.query.specs.declared.Entry.{Entry}
 use Rattle.query.specs.declared.Entry.TheVariants.{Constant, Variable}
 use Rattle.query.specs.declared.Cell.{Cell}
@@ -32,15 +32,15 @@ cells-back : (cells : List Cell) → map (λ e. record { entry = entry_from e })
 cells-back [] = refl
 cells-back (c ∷ cs) = ap₂ (λ (d : Cell) (ds : List Cell). d ∷ ds) (λ i. record { entry = entry-back c.entry i }) (cells-back cs)
 
--- An array of which the first n cells are in use is made of those
-used-back : (n most : ℕ) (cells : List Cell) → length cells ≡ most → n ≤ most → in_use n good_cell blank_cell cells ≡ true
+-- An array of which the cells after the first n are blank is made of those
+used-back : (n most : ℕ) (cells : List Cell) → length cells ≡ most → n ≤ most → every blank_cell (drop n cells) ≡ true
     → cells_from most (entries_of (take n cells)) ≡ cells
-used-back n most cells long few good =
+used-back n most cells long few blank =
     let count : length (entries_of (take n cells)) ≡ n =
     length-map (take n cells) (λ (c : Cell). entry_of c.entry) ∙ length-take-le n cells (omega arith)
     in
     ap₂ (λ (l : List Cell) (k : ℕ). l ++ replicate k no_cell) (cells-back (take n cells)) (ap₂ (λ (a b : ℕ). a - b) (sym long) count)
-    ∙ sym (padded n good_cell blank_cell cells no_cell blank-cell (used-blank n good_cell blank_cell cells good))
+    ∙ sym (padded n good_cell blank_cell cells no_cell blank-cell blank)
 
 -- ---- 2. rows
 
@@ -60,7 +60,7 @@ module _ (schema : List ℕ) (narrow : (i : ℕ) → get_or schema i 0 ≤ 8) wh
       ap₂ (λ (xs ys : List Cell). xs ++ ys)
       (ap (λ (xs : List Cell). cells_from 8 (entries_of xs)) (sym (take-take w 8 cells (narrow k)))
       ∙ used-back w 8 (take 8 cells) (length-take-le 8 cells (omega arith)) (narrow k)
-      (row-parts schema k (take 8 cells) (rows-first schema k rs cells good)).1)
+      (used-blank w good_cell blank_cell (take 8 cells) (row-parts schema k (take 8 cells) (rows-first schema k rs cells good)).1))
       (rows-back rs (drop 8 cells) (rw length-drop (omega arith)) (rows-rest schema k rs cells good))
       ∙ sym (ap (λ (n : ℕ). take n cells) more ∙ take-add 8 (8 * length rs) cells)
 
@@ -74,10 +74,8 @@ stored-back most schema narrow q shaped good =
     let arity : length (query_of schema q).head ≡ q.arity = head-length schema q (omega (arith, g.arity, s.head)) in
     let size : length (query_of schema q).rows ≡ q.size = row_count schema q (omega (arith, g.size, s.relations)) in
     let named : length (take q.size q.relations) ≡ q.size = length-take-le q.size q.relations (omega (arith, g.size, s.relations)) in
-    let head : cells_from 8 (cond (eqb (length (query_of schema q).rows) 0) [] (query_of schema q).head) ≡ q.head =
-    ap (λ (n : ℕ). cells_from 8 (cond (eqb n 0) [] (query_of schema q).head)) size
-    ∙ shown (eqb q.size 0)
-    ∙ used-back (head_in_use q) 8 q.head s.head (in-use-few (eqb q.size 0) g.arity) g.head
+    let head : cells_from 8 (query_of schema q).head ≡ q.head =
+    used-back q.arity 8 q.head s.head g.arity (past-head (eqb q.size 0) (used-blank (head_in_use q) good_cell blank_cell q.head g.head))
     in
     let relations : map (λ r. r.relation) (query_of schema q).rows ++ replicate (most - length (query_of schema q).rows) 0 ≡ q.relations =
     ap₂ (λ (l : List ℕ) (n : ℕ). l ++ replicate n 0) (rows-relations schema (take q.size q.relations) q.cells)
@@ -92,13 +90,10 @@ stored-back most schema narrow q shaped good =
     in
     λ i. record { arity = arity i; size = size i; head = head i; relations = relations i; cells = cells i }
   where
-    shown : (t : Bool) → cells_from 8 (cond t [] (entries_of (take q.arity q.head))) ≡ cells_from 8 (entries_of (take (cond t 0 q.arity) q.head))
-    shown true = refl
-    shown false = refl
-
-    in-use-few : (t : Bool) → q.arity ≤ 8 → cond t 0 q.arity ≤ 8
-    in-use-few true h = omega arith
-    in-use-few false h = h
+    -- Of never all head cells are blank
+    past-head : (t : Bool) → every blank_cell (drop (cond t 0 q.arity) q.head) ≡ true → every blank_cell (drop q.arity q.head) ≡ true
+    past-head true blank = every_drop blank_cell q.arity q.head blank
+    past-head false blank = blank
 
 -- so it is determined by it
 pub stored-unique : StoredUnique

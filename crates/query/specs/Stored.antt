@@ -1,5 +1,5 @@
 -- The stored query that stands for a query, with room for so many rows: `query_of` undone (`Meaning`).
-use Rattle.std.specs.Prelude.{ℕ, ◌*◌, ◌-◌, cond, eqb, List, [], ◌∷◌, ◌++◌, map, length, replicate}
+use Rattle.std.specs.Prelude.{ℕ, ◌*◌, ◌-◌, List, [], ◌∷◌, ◌++◌, map, length, replicate}
 use Rattle.query.specs.declared.Entry.{Entry}
 use Rattle.query.specs.declared.Entry.TheVariants.{Constant, Variable}
 use Rattle.query.specs.declared.Cell.{Cell}
@@ -21,13 +21,13 @@ unfoldable pub row_cells : List (theory.Row theory.Entry) → List Cell
 row_cells [] = []
 row_cells (r ∷ rows) = cells_from 8 r.values ++ row_cells rows
 
--- The stored query that stands for a query. Of the head of never it has the length alone
+-- The stored query that stands for a query
 abbrev pub stored_form : ℕ → theory.Query → Query
 stored_form most q =
     record {
       arity = length q.head;
       size = length q.rows;
-      head = cells_from 8 (cond (eqb (length q.rows) 0) [] q.head);
+      head = cells_from 8 q.head;
       relations = map (λ r. r.relation) q.rows ++ replicate (most - length q.rows) 0;
       cells = row_cells q.rows ++ replicate (8 * most - 8 * length q.rows) no_cell;
     }
