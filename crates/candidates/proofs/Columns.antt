@@ -3,7 +3,7 @@
 use mathlib.Core.Path.{◌≡◌, sym, ap, ◌∙◌, subst, subst⁻¹, subst₂}
 use mathlib.Core.Logic.{◌⊎◌, inl, inr}
 use mathlib.Core.List.{List}
-use Prim.Native.Nat.{ℕ, ◌+◌, ◌*◌, ◌/◌, ◌%◌, ◌^◌, ◌≤◌, ◌<◌}
+use Prim.Native.Nat.{ℕ, ◌+◌, ◌-◌, ◌*◌, ◌/◌, ◌%◌, ◌^◌, ◌≤◌, ◌<◌}
 use native.Mathlib.Nat.{not-suc-le-zero, one-mul, mod-eq_of_lt}
 use native.Mathlib.Decide.{ℕ_discrete, dec_lt}
 use native.Mathlib.Omega.{arith}
@@ -17,11 +17,15 @@ use Rattle.candidates.specs.internal.Candidates.{row_start}
 use Rattle.candidates.specs.internal.Sharing.{Met, Shares}
 use Rattle.candidates.proofs.Candidates.{Place, place_of, rows_apart}
 
+-- The place of a variable's code among 96 masks
+abbrev pub slot : ℕ → ℕ
+slot code = (code - 2147483648) % 256 % 96
+
 -- The first k codes are passed
 pub record Marked (source columns seen : List ℕ) (k : ℕ) : Type 0 where
   pub columns-length : length columns ≡ 8
   pub seen-length : length seen ≡ 96
-  pub each : (j : ℕ) → j < k → 2147483648 ≤ get_or source j 0 → Has (get_or seen (get_or source j 0 % 96) 0) (j % 8)
+  pub each : (j : ℕ) → j < k → 2147483648 ≤ get_or source j 0 → Has (get_or seen (slot (get_or source j 0)) 0) (j % 8)
   pub both : (j l : ℕ) → j < l → l < k → 2147483648 ≤ get_or source l 0 → get_or source j 0 ≡ get_or source l 0 → Has (get_or columns (l % 8) 0) (j % 8)
 
 pub marked-none : (source columns seen : List ℕ) → length columns ≡ 8 → length seen ≡ 96 → Marked source columns seen 0
@@ -75,8 +79,8 @@ module _ (source columns seen : List ℕ) (k : ℕ) (state : Marked source colum
 
   -- and a variable, whose column is marked with those in which it is seen
   pub marked-variable : (bit : ℕ) → Has bit (k % 8)
-      → Marked source (set columns (k % 8) (bit_or (get_or columns (k % 8) 0) (get_or seen (get_or source k 0 % 96) 0)))
-      (set seen (get_or source k 0 % 96) (bit_or (get_or seen (get_or source k 0 % 96) 0) bit)) (k + 1)
+      → Marked source (set columns (k % 8) (bit_or (get_or columns (k % 8) 0) (get_or seen (slot (get_or source k 0)) 0)))
+      (set seen (slot (get_or source k 0)) (bit_or (get_or seen (slot (get_or source k 0)) 0) bit)) (k + 1)
   marked-variable bit own =
       record {
         columns-length = length-set columns (k % 8) _ ∙ state.columns-length;
@@ -86,7 +90,7 @@ module _ (source columns seen : List ℕ) (k : ℕ) (state : Marked source colum
       }
     where
       x : ℕ
-      x = get_or source k 0 % 96
+      x = slot (get_or source k 0)
 
       in_columns : k % 8 < length columns
       in_columns = let z = state.columns-length in omega arith
@@ -95,11 +99,11 @@ module _ (source columns seen : List ℕ) (k : ℕ) (state : Marked source colum
       in_seen = let z = state.seen-length in omega arith
 
       each : (j : ℕ) → j < k + 1 → 2147483648 ≤ get_or source j 0 → Dec (j ≡ k)
-          → Has (get_or (set seen x (bit_or (get_or seen x 0) bit)) (get_or source j 0 % 96) 0) (j % 8)
+          → Has (get_or (set seen x (bit_or (get_or seen x 0) bit)) (slot (get_or source j 0)) 0) (j % 8)
       each j h large (yes e) =
-          subst (λ (y : ℕ). Has (get_or (set seen x (bit_or (get_or seen x 0) bit)) (get_or source y 0 % 96) 0) (y % 8)) (sym e)
+          subst (λ (y : ℕ). Has (get_or (set seen x (bit_or (get_or seen x 0) bit)) (slot (get_or source y 0)) 0) (y % 8)) (sym e)
           (put-has seen x bit (k % 8) in_seen own)
-      each j h large (no n) = put_keeps seen x bit (get_or source j 0 % 96) (j % 8) in_seen (state.each j (omega arith) large)
+      each j h large (no n) = put_keeps seen x bit (slot (get_or source j 0)) (j % 8) in_seen (state.each j (omega arith) large)
 
       both : (j l : ℕ) → j < l → l < k + 1 → 2147483648 ≤ get_or source l 0 → get_or source j 0 ≡ get_or source l 0 → Dec (l ≡ k)
           → Has (get_or (set columns (k % 8) (bit_or (get_or columns (k % 8) 0) (get_or seen x 0))) (l % 8) 0) (j % 8)
@@ -107,7 +111,7 @@ module _ (source columns seen : List ℕ) (k : ℕ) (state : Marked source colum
           let was : get_or source j 0 ≡ get_or source k 0 = same ∙ ap (λ (y : ℕ). get_or source y 0) e in
           subst (λ (y : ℕ). Has (get_or (set columns (k % 8) (bit_or (get_or columns (k % 8) 0) (get_or seen x 0))) (y % 8) 0) (j % 8)) (sym e)
           (put-has columns (k % 8) (get_or seen x 0) (j % 8) in_columns
-          (subst (λ (y : ℕ). Has (get_or seen (y % 96) 0) (j % 8)) was (state.each j (omega arith) (omega arith))))
+          (subst (λ (y : ℕ). Has (get_or seen (slot y) 0) (j % 8)) was (state.each j (omega arith) (omega arith))))
       both j l h m large same (no n) =
           put_keeps columns (k % 8) (get_or seen x 0) (l % 8) (j % 8) in_columns (state.both j l h (omega arith) large same)
 

@@ -39,7 +39,11 @@ pub fn once(source: &[u32], r: usize) -> bool
 {
     for i in 0..8 {
         let code = source[r + i];
-        if code >= 2147483648 && source[r..r + i].contains(&code) {
+        let again = match Entry::from(code) {
+            Entry::Constant(_) => false,
+            Entry::Variable(_) => source[r..r + i].contains(&code),
+        };
+        if again {
             return false;
         }
     }
@@ -55,7 +59,10 @@ pub fn fixes(source: &[u32], target: &[u32], r: usize, d: usize) -> bool
     let mut all = true;
     for i in 0..8 {
         let value = source[r + i];
-        all &= (value >= 2147483648) | (target[d + i] == value);
+        all &= match Entry::from(value) {
+            Entry::Constant(_) => target[d + i] == value,
+            Entry::Variable(_) => true,
+        };
     }
     all
 }

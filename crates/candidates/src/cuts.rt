@@ -8,6 +8,7 @@ ghost use Rattle.candidates.specs.internal.Sharing.{Column, Meets, Alike, Cut, J
 use crate::marks::marks_where;
 use crate::shared::{column, other_has};
 use crate::table::{candidates, image_at, row_at};
+use query::Entry;
 
 // The candidates of row q that have the code `code` in column j.
 fn with_code(target: &[u32], size: usize, count: usize, q: usize, j: usize, code: u32) -> u32
@@ -97,9 +98,9 @@ fn cut_row(
     ensures { Cut size count (λ r' d q e. r' ≡ r → Joins source.now target.now size i j r' d q e) table.old table.new }
 {
     let code = source[row_at(size, r) + i];
-    if code < 2147483648 {
+    let Entry::Variable(_) = Entry::from(code) else {
         return;
-    }
+    };
     // Kept as it is: q is a row's number and indexes nothing here.
     for q in 0..size + 1 {
         if other_has(codes, code, r, q) {

@@ -5,9 +5,10 @@ ghost use Rattle.consistency.specs.internal.Solution.{Bit};
 ghost use Rattle.candidates.specs.internal.Sharing.{Met, Column};
 
 use crate::table::row_at;
+use query::Entry;
 
 // For each column the columns in which a variable of it stands earlier, as masks.
-// Kept as it is: the remainder by 96 tells the variables of a query apart, which are below 96; a column that is marked by chance costs time alone.
+// Kept as it is: the remainder by 96 changes no variable of a query, which are below 96; a column that is marked by chance costs time alone.
 pub fn shared_columns(source: &[u32]) -> [u8; 8]
     requires { length source.now ≡ 104 }
     ensures { Met source.now result }
@@ -15,11 +16,12 @@ pub fn shared_columns(source: &[u32]) -> [u8; 8]
     let mut columns = [0u8; 8];
     let mut seen = [0u8; 96];
     for (k, &code) in source.iter().enumerate() {
-        if code >= 2147483648 {
-            let x = (code % 96) as usize;
-            columns[k % 8] |= seen[x];
-            seen[x] |= 1 << (k % 8);
-        }
+        let Entry::Variable(v) = Entry::from(code) else {
+            continue;
+        };
+        let x = usize::from(v % 96);
+        columns[k % 8] |= seen[x];
+        seen[x] |= 1 << (k % 8);
     }
     columns
 }

@@ -5,6 +5,7 @@ use mathlib.Core.Path.{◌≡◌, sym, ap, ◌∙◌, subst, subst₂}
 use mathlib.Core.Bool.{false≢true}
 use Prim.Native.Nat.{ℕ, ◌+◌, ◌≤◌}
 use lib.ListN.{get_or}
+use Rattle.query.proofs.Codes.{code-variable}
 use Rattle.candidates.specs.internal.Candidates.{row_start}
 use Rattle.candidates.specs.internal.Sharing.{Cut, Shares, Meets, Joins}
 use Rattle.candidates.proofs.Cutting.{cut-none, cut_as, cut-more}
@@ -22,7 +23,7 @@ loop-q-preserved c =
     let code : get_or source (c.row_at.result + a.i) 0 ≡ get_or source (row_start a.size a.r + a.i) 0 =
     ap (λ (x : ℕ). get_or source (x + a.i) 0) c.row_at.ensures.0
     in
-    let large : 2147483648 ≤ get_or source (row_start a.size a.r + a.i) 0 = subst (λ (x : ℕ). 2147483648 ≤ x) code c.if-code-lt2147483648.false in
+    let large : 2147483648 ≤ get_or source (row_start a.size a.r + a.i) 0 = subst (λ (x : ℕ). 2147483648 ≤ x) code (code-variable _ _ (sym c.from.ensures ∙ c.in-Variable.is)).0 in
     let same : get_or a.codes.now l.q 0 ≡ get_or source (row_start a.size l.q + a.j) 0 = c.requires.column l.q (search rules) in
     let step : Cut a.size a.count Here l.table c.if-other_has.table =
     elim c.if-other_has.branch [
