@@ -60,24 +60,7 @@ put-has masks at more i inside has =
     subst (λ (m : ℕ). Has m i) (sym (get_or-set_same masks at (bit_or (get_or masks at 0) more) 0 inside)) (bit_or_right (get_or masks at 0) more i has)
 
 module _ (source columns seen : List ℕ) (k : ℕ) (state : Marked source columns seen k) where
-  -- A constant is passed
-  pub marked-constant : get_or source k 0 < 2147483648 → Marked source columns seen (k + 1)
-  marked-constant small =
-      record {
-        columns-length = state.columns-length;
-        seen-length = state.seen-length;
-        each = λ j h large. state.each j (before j h large) large;
-        both = λ j l h m large same. state.both j l h (before l m large) large same;
-      }
-    where
-      before : (j : ℕ) → j < k + 1 → 2147483648 ≤ get_or source j 0 → j < k
-      before j h large = go (ℕ_discrete j k)
-        where
-          go : Dec (j ≡ k) → j < k
-          go (yes e) = let same : get_or source j 0 ≡ get_or source k 0 = ap (λ (x : ℕ). get_or source x 0) e in absurd (omega arith)
-          go (no n) = omega arith
-
-  -- and a variable, whose column is marked with those in which it is seen
+  -- A variable is passed, whose column is marked with those in which it is seen
   pub marked-variable : (bit : ℕ) → Has bit (k % 8)
       → Marked source (set columns (k % 8) (bit_or (get_or columns (k % 8) 0) (get_or seen (slot (get_or source k 0)) 0)))
       (set seen (slot (get_or source k 0)) (bit_or (get_or seen (slot (get_or source k 0)) 0) bit)) (k + 1)
