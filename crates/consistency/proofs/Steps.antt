@@ -1,19 +1,19 @@
--- Why a state may become what it becomes: first choices below 24, then the state after a choice and what a failure after it says before it, then a row compared
--- with another. Assumes nothing.
+-- Why a state may become what it becomes: first choices below 24, then the state after a choice and what a failure after it says before it, then its rows one
+-- by one, then a row compared with another. Assumes nothing.
 use mathlib.Core.Path.{◌≡◌, refl, sym, ap, ◌∙◌, subst, subst⁻¹}
 use mathlib.Core.Logic.{◌⊎◌, inl, inr}
 use mathlib.Core.List.{List, [], ◌∷◌}
-use Prim.Native.Nat.{ℕ, zero, suc, ◌^◌, ◌<◌}
+use Prim.Native.Nat.{ℕ, zero, suc, ◌+◌, ◌^◌, ◌<◌, ◌≤◌}
 use native.Mathlib.Omega.{arith}
 use native.Mathlib.Decide.{ℕ_discrete}
 use lib.ListN.{get_or, set, length}
 use lib.Seq.{get_or-set_same, get_or-set_other}
-use lib.Bits.{bit_and, bit_or}
+use lib.Bits.{bit_and, bit_or, bit_xor}
 use Rattle.consistency.specs.internal.Solution.{Bit, together, Solution}
 use Rattle.consistency.specs.internal.Consistent.{NoBit, Below, HasChosen, Refuted, Accounted, Settles}
-use Rattle.consistency.specs.internal.Steps.{RowAfter, Supports}
+use Rattle.consistency.specs.internal.Steps.{Marked, RowAfter, Apart}
 use Rattle.consistency.specs.declared.State.{State}
-use Rattle.consistency.proofs.Masks.{bit-and, bit_or_left, bit_or_right, bit-or-other, bit-one}
+use Rattle.consistency.proofs.Masks.{bit-and, bit_or_left, bit_or_right, bit-or-other, bit-one, bit-xor}
 
 -- ---- choices below 24
 
@@ -87,28 +87,109 @@ module _ (rows : ℕ) (domain table : List ℕ) (s t : State) (r d : ℕ) (chose
       → (f : ℕ → ℕ) → Solution rows domain table f → HasChosen s.placed m s.chosen f → f r ≡ d → ⊥
   excludes m fails f sol ag e = fails f sol (agrees_after m f (λ b. e) ag)
 
+-- the state with other candidates and culprits of row q
+abbrev pub stored : State → ℕ → ℕ → ℕ → State
+stored s q left b =
+    record { chosen = s.chosen; placed = s.placed; current = set s.current q left; culprits = set s.culprits q b }
+
+-- ---- the rows one by one
+-- of the state t the first n rows are after the choice, and the others as they were
+pub record Passed (table : List ℕ) (s t : State) (r d n : ℕ) : Type 0 where
+  pub done : (k : ℕ) → k < n → RowAfter table s t r d k
+  pub current : (k : ℕ) → n ≤ k → get_or t.current k 0 ≡ get_or s.current k 0
+  pub culprits : (k : ℕ) → n ≤ k → get_or t.culprits k 0 ≡ get_or s.culprits k 0
+
+row-same : (table : List ℕ) (s t u : State) (r d k : ℕ) → get_or u.current k 0 ≡ get_or t.current k 0
+    → get_or u.culprits k 0 ≡ get_or t.culprits k 0 → RowAfter table s t r d k → RowAfter table s u r d k
+row-same table s t u r d k e f row =
+    record {
+      candidates = e ∙ row.candidates;
+      blamed =
+          subst⁻¹ (λ (x : ℕ). Marked (get_or s.culprits k 0) (get_or s.current k 0) x r (get_or u.culprits k 0)) e
+          (subst⁻¹ (λ (x : ℕ). Marked (get_or s.culprits k 0) (get_or s.current k 0) (get_or t.current k 0) r x) f row.blamed);
+    }
+
+one-row-more : (table : List ℕ) (s t : State) (r d n : ℕ) → ((k : ℕ) → k < n → RowAfter table s t r d k) → RowAfter table s t r d n
+    → (k : ℕ) → k < n + 1 → RowAfter table s t r d k
+one-row-more table s t r d n before at k h = go (ℕ_discrete k n)
+  where
+    go : Dec (k ≡ n) → RowAfter table s t r d k
+    go (yes e) = subst⁻¹ (RowAfter table s t r d) e at
+    go (no other) = before k (omega arith)
+
+pub passed-none : (table : List ℕ) (s t : State) (r d : ℕ) → t.current ≡ s.current → t.culprits ≡ s.culprits → Passed table s t r d 0
+passed-none table s t r d e f =
+    record {
+      done = λ k h. absurd (let h' : k < 0 = h in omega arith);
+      current = λ k h. ap (λ (l : List ℕ). get_or l k 0) e;
+      culprits = λ k h. ap (λ (l : List ℕ). get_or l k 0) f;
+    }
+
+-- a row that has lost nothing stays
+pub passed-row : (table : List ℕ) (s t : State) (r d n : ℕ) → bit_and (get_or t.current n 0) (together table r d n) ≡ get_or t.current n 0
+    → Passed table s t r d n → Passed table s t r d (n + 1)
+passed-row table s t r d n same p =
+    record {
+      done = one-row-more table s t r d n p.done
+          record {
+            candidates = sym same ∙ ap (λ (x : ℕ). bit_and x (together table r d n)) (p.current n (omega arith));
+            blamed = inl (p.current n (omega arith), p.culprits n (omega arith));
+          };
+      current = λ k h. p.current k (omega arith);
+      culprits = λ k h. p.culprits k (omega arith);
+    }
+
+-- another row keeps what goes together with the choice, and blames row r
+pub passed-narrowed : (table : List ℕ) (s t : State) (r d n b : ℕ) → n < length t.current → n < length t.culprits → b ≡ 2 ^ r
+    → Passed table s t r d n
+    → Passed table s (stored t n (bit_and (get_or t.current n 0) (together table r d n)) (bit_or (get_or t.culprits n 0) b)) r d (n + 1)
+passed-narrowed table s t r d n b lc lb one p =
+    record {
+      done = one-row-more table s u r d n
+          (λ k h. row-same table s t u r d k (current-other k (omega arith)) (culprits-other k (omega arith)) (p.done k h))
+          record {
+            candidates =
+                get_or-set_same t.current n left 0 lc ∙ ap (λ (x : ℕ). bit_and x (together table r d n)) (p.current n (omega arith));
+            blamed = inr
+                (get_or-set_same t.culprits n both 0 lb ∙ ap (λ (x : ℕ). bit_or x b) (p.culprits n (omega arith))
+                ∙ ap (bit_or (get_or s.culprits n 0)) one);
+          };
+      current = λ k h. current-other k (omega arith) ∙ p.current k (omega arith);
+      culprits = λ k h. culprits-other k (omega arith) ∙ p.culprits k (omega arith);
+    }
+  where
+    left : ℕ
+    left = bit_and (get_or t.current n 0) (together table r d n)
+
+    both : ℕ
+    both = bit_or (get_or t.culprits n 0) b
+
+    u : State
+    u = stored t n left both
+
+    current-other : (k : ℕ) → (k ≡ n → ⊥) → get_or u.current k 0 ≡ get_or t.current k 0
+    current-other k other = get_or-set_other t.current n k left 0 other
+
+    culprits-other : (k : ℕ) → (k ≡ n → ⊥) → get_or u.culprits k 0 ≡ get_or t.culprits k 0
+    culprits-other k other = get_or-set_other t.culprits n k both 0 other
+
 -- ---- a row compared with another
 pub agrees-part : (placed a b : ℕ) (chosen : List ℕ) (f : ℕ → ℕ) → ((q : ℕ) → Bit a q → Bit b q) → HasChosen placed b chosen f → HasChosen placed a chosen f
 agrees-part placed a b chosen f sub ag q p m = ag q p (sub q m)
 
--- the state with other candidates and culprits of row q
-abbrev pub stored : State → ℕ → ℕ → ℕ → ℕ → State
-stored s q left b changed =
-    record { chosen = s.chosen; placed = s.placed; current = set s.current q left; culprits = set s.culprits q b; changed = changed }
-
--- row q may lose what no candidate of row p supports, if the culprits of row p become its own too
-pub settles-revised : (rows : ℕ) (table : List ℕ) (s : State) (p q m changed : ℕ) → p < rows → q < rows → q < length s.current
-    → q < length s.culprits → Supports table (get_or s.current p 0) p q 24 m
-    → Settles rows table s (stored s q (bit_and (get_or s.current q 0) m) (bit_or (get_or s.culprits q 0) (get_or s.culprits p 0)) changed)
-settles-revised rows table s p q m changed hp hq lc lb supports = record { chosen = refl; placed = refl; sound = after }
+-- row q may lose what goes together with no candidate of row p, if the culprits of row p become its own too
+pub settles-revised : (rows : ℕ) (table : List ℕ) (s : State) (p q m : ℕ) → p < rows → q < rows → q < length s.current
+    → q < length s.culprits → Apart table (get_or s.current p 0) p q m
+    → Settles rows table s (stored s q (bit_xor (get_or s.current q 0) m) (bit_or (get_or s.culprits q 0) (get_or s.culprits p 0)))
+settles-revised rows table s p q m hp hq lc lb none = record { chosen = refl; placed = refl; sound = after }
   where
     left : ℕ
-    left = bit_and (get_or s.current q 0) m
+    left = bit_xor (get_or s.current q 0) m
 
     both : ℕ
     both = bit_or (get_or s.culprits q 0) (get_or s.culprits p 0)
 
-    after : (domain : List ℕ) → Accounted rows domain table s → Accounted rows domain table (stored s q left both changed)
+    after : (domain : List ℕ) → Accounted rows domain table s → Accounted rows domain table (stored s q left both)
     after domain sound k h f sol ag = go (ℕ_discrete k q)
       where
         go : Dec (k ≡ q) → Bit (get_or (set s.current q left) k 0) (f k)
@@ -127,13 +208,19 @@ settles-revised rows table s p q m changed hp hq lc lb supports = record { chose
             (agrees-part s.placed (get_or s.culprits p 0) both s.chosen f
             (λ x b. bit_or_right (get_or s.culprits q 0) (get_or s.culprits p 0) x b) agree)
             in
-            let held : Bit m (f q) = supports (f p) (f q) (sol.below p hp) other (sol.joined p q hp hq) in
+            let held : Bit m (f q) → ⊥ =
+            λ b. none (f p) (f q) (sol.below p hp) (sol.below q hq) b other (sol.joined p q hp hq) (sol.joined q p hq hp)
+            in
             subst⁻¹ (λ (x : ℕ). Bit (get_or (set s.current q left) x 0) (f x)) e
-            (subst⁻¹ (λ (x : ℕ). Bit x (f q)) (get_or-set_same s.current q left 0 lc) (bit-and (get_or s.current q 0) m (f q) own held))
+            (subst⁻¹ (λ (x : ℕ). Bit x (f q)) (get_or-set_same s.current q left 0 lc) (bit-xor (get_or s.current q 0) m (f q) own held))
         go (no n) =
             subst⁻¹ (λ (x : ℕ). Bit x (f k)) (get_or-set_other s.current q k left 0 n)
             (sound k h f sol
             (subst (λ (x : ℕ). HasChosen s.placed x s.chosen f) (get_or-set_other s.culprits q k both 0 n) ag))
+
+-- a state settles itself
+pub settles-same : (rows : ℕ) (table : List ℕ) (s : State) → Settles rows table s s
+settles-same rows table s = record { chosen = refl; placed = refl; sound = λ domain sound. sound }
 
 -- settling is transitive
 pub settles-more : (rows : ℕ) (table : List ℕ) (s t u : State) → Settles rows table s t → Settles rows table t u → Settles rows table s u

@@ -22,3 +22,8 @@ pub record After (rows : ℕ) (table : List ℕ) (s t : State) (r d : ℕ) : Typ
 -- the mask m has each candidate of row q that goes together with one of the first n candidates of row p, whose candidates are `own`
 abbrev pub Supports : List ℕ → ℕ → ℕ → ℕ → ℕ → ℕ → Type 0
 Supports table own p q n m = (d e : ℕ) → d < n → Bit own d → Bit (together table p d q) e → Bit m e
+
+-- no candidate of row q in the mask m goes together with one of row p, whose candidates are `own`: by the one or the other entry of the table
+abbrev pub Apart : List ℕ → ℕ → ℕ → ℕ → ℕ → Type 0
+Apart table own p q m =
+    (d e : ℕ) → d < 24 → e < 24 → Bit m e → Bit own d → Bit (together table p d q) e → Bit (together table q e p) d → ⊥

@@ -1,6 +1,0 @@
--- `search::settled` meets its contract. The loop's invariant: so far it is settled. Assumes nothing.
-use Rattle.consistency.specs.internal.Consistent.{Settles}
-use Rattle.consistency.proofs.settled.Given as goal
-
-abbrev pub invariant-turns : goal.invariant-turns
-invariant-turns l = Settles l.rows l.table l.initial.next l.next
