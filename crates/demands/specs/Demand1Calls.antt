@@ -79,7 +79,7 @@ abbrev pub CheckMeets : Record → ℕ → ℕ → List Cell → Result Bool Ref
 CheckMeets r p q images c =
     Meets (pair_conditions r p q) (pair_asks ∷ []) (refusal_in (reply_of c)) NothingToKeep (reply_of c ≡ gives (maps_to (query_at r q) (query_at r p) (entries_of images)))
 
--- Reducing: what is due leaves free which rows stay, their order, and the mapping
+-- Reducing: what is due leaves free only which mapping is returned
 abbrev pub ReduceMeets : Record → ℕ → ℕ → Reduced → Type 0
 ReduceMeets r source target o =
     Meets (reduction_conditions r source target) (reduce_asks ∷ []) (refusal_in (reply_of o.answer))

@@ -6,7 +6,7 @@ use Rattle.reduction.specs.declared.Reduced.{Reduced}
 use Rattle.reduction.specs.Reduced.{reduction_refusal, ShortFormStored}
 
 -- Let S be the query of the source place, T what the target place holds after the call. `ShortFormStored` says: all else in the record is unchanged, and, by
--- `ReducesTo`, T is a result of reduction, and unless it is never the images are a mapping from S to it; on every database that obeys the held functional
+-- `ReducesTo`, T is the result of reduction that is given, and unless it is never the images are a mapping from S to it; on every database that obeys the held functional
 -- dependencies, whether or not it obeys the join dependencies, T has exactly the answers of S; no query with those answers on all those databases has fewer
 -- rows than T, whichever variables and constants it uses; and the count is that of the chase of S, at most the number of its different variables
 abbrev pub Shortens : Record → ℕ → ℕ → Reduced → Type 0

@@ -21,7 +21,7 @@ use Rattle.determination.specs.Determined.{FitsColumns, adds, grow_on, grow_for,
 use Rattle.minimization.specs.Search.{lookup, assign_to, send_entry, send_entries, send_row, try_rows, place_rows, place_query, mappable}
 use Rattle.minimization.specs.Checking.{same_row}
 use Rattle.minimization.specs.Search.{contained_on, contained}
-use Rattle.minimization.specs.Kept.{kept_after, entry_before, entries_before, row_before, insert_row, sorted, reduced}
+use Rattle.minimization.specs.Kept.{kept_after, entries_before, insert_row, sorted, reduced}
 use Rattle.minimization.specs.Examples.{Example, reduces, keeps, chases_to, compares, determines, schema, Meaning, same_query}
 use Rattle.minimization.specs.Examples.{fits_columns, fits_schema, over_schema, holds, examples}
 use Rattle.theory.proofs.Lists.{and-three, beq-true}

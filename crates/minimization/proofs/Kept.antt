@@ -15,9 +15,9 @@ use Rattle.theory.specs.Query.{Entry, Row, Query, ◌∈◌, without}
 use Rattle.theory.specs.Database.{Dependency}
 use Rattle.theory.specs.Answer.{Mapping}
 use Rattle.theory.specs.Chase.{chase}
-use Rattle.minimization.specs.Reduction.{Core, drop_row, Reduction, Reordered}
+use Rattle.minimization.specs.Reduction.{Reduction}
 use Rattle.minimization.specs.Search.{mappable}
-use Rattle.minimization.specs.Kept.{kept_after, kept, row_before, insert_row, sorted, core, reduced}
+use Rattle.minimization.specs.Kept.{kept_after, kept, row_before, insert_row, sorted, reduced}
 use Rattle.theory.proofs.Lists.{list_cases}
 use Rattle.theory.proofs.Members.{◌⊆◌, cons-part, insert-part}
 use Rattle.theory.proofs.Carry.{mapping-compose, mapping-self, mapping-part, mapping-target}

@@ -13,17 +13,16 @@
 -- variable in a row.
 --   5. Losing rows one at a time leads to every result, up to the order of rows.
 -- Assumes nothing.
-use mathlib.Core.Path.{◌≡◌, refl, sym, ◌∙◌, ap, subst, subst₂}
+use mathlib.Core.Path.{◌≡◌, refl, sym, ◌∙◌, ap, subst}
 use mathlib.Core.Logic.Iff
 use mathlib.Core.Logic.{◌≢◌, ◌↔◌, ∥∥₁_elim, ◌⊎◌, inl, inr}
 use mathlib.Core.List.Memᴰ
-use mathlib.Core.List.{List, [], ◌∷◌, ◌++◌, map, append-nil}
+use mathlib.Core.List.{List, [], ◌∷◌, ◌++◌, map}
 use Prim.Native.Nat.{ℕ, zero, suc, ◌+◌, ◌≤◌, ◌<◌}
 use native.Mathlib.Omega.{arith}
 use native.Mathlib.Bridge.{le_prop}
 use native.Mathlib.Decide.{dec_le}
 use lib.ListN.{length, length-map}
-use lib.Seq.{append_snoc}
 use Rattle.theory.specs.Query.{Entry, constant, variable, Row, Query, map_row, row_entries, variables_of, FitsSchema, WellFormed, ◌∈◌, without}
 use Rattle.theory.specs.Database.{Database, Dependency, Obeys, Legal}
 use Rattle.theory.specs.Answer.{value_of, itself, Carries, Answer, Mapping}
@@ -32,8 +31,8 @@ use Rattle.theory.specs.Containment.{freeze, frozen_rows, frozen_head, Constants
 use Rattle.minimization.specs.Reduction.{drop_row, Core, Reduction, Shrinks, stays, loses, Reordered, Minimal, Equivalent}
 use Rattle.theory.proofs.Lists.{Nodup, without-length, nodup-length-le, list_cases, map-fixes}
 use Rattle.theory.proofs.Entries.{constant-variable, variables_of-mem, mem-variables_of, row-row_entries}
-use Rattle.theory.proofs.Members.{◌⊆◌, insert-part, map-part, some-of-member, member-of-some, row-of-entry, row_entries-part}
-use Rattle.minimization.proofs.Without.{without-part, without-cases, without-append, without-singleton, pigeonhole, nodup-of, nodup-fills}
+use Rattle.theory.proofs.Members.{◌⊆◌, map-part, some-of-member, member-of-some, row-of-entry, row_entries-part}
+use Rattle.minimization.proofs.Without.{without-part, without-cases, pigeonhole, nodup-of, nodup-fills}
 use Rattle.theory.proofs.Carry.{carries-fewer, mapping-of, mapping-compose, mapping-self, mapping-part, mapping-inclusion, mapping-target}
 use Rattle.theory.proofs.Chase.{chase-answers, chase-mapping, chase-obeys, chase-rows-fit, chase-wellformed, chase-head-length}
 use Rattle.theory.proofs.Chase.{chase-length-le}

@@ -240,9 +240,12 @@ kept_rows =
     ∷ keeps [] (query [] (R (v 2) (v 3) ∷ R (v 0) (v 1) ∷ [])) (R (v 2) (v 3) ∷ [])
     -- of four rows that can, the first stays
     ∷ keeps [] (query [] (R (v 4) (v 5) ∷ R (v 0) (v 1) ∷ R (v 6) (v 7) ∷ R (v 2) (v 3) ∷ [])) (R (v 4) (v 5) ∷ [])
-    -- a row may go together with others of its own: R(v1,v2) goes once R(v2,v3) has gone
+    -- a row may go only because others move with it: R(v2,v3) goes to R(v0,v0) together with R(v0,v1) and R(v1,v2)
     ∷ keeps [] (query (v 0 ∷ []) (R (v 0) (v 0) ∷ R (v 0) (v 1) ∷ R (v 1) (v 2) ∷ R (v 2) (v 3) ∷ [])) (R (v 0) (v 0) ∷ [])
-    -- the last of the rows that repeat each other go
+    -- by position, whatever the relations: of two parts that can stand for each other the one with the last row goes
+    ∷ keeps [] (query [] (R (v 0) (v 1) ∷ R (v 2) (v 3) ∷ B (v 3) (v 2) ∷ B (v 1) (v 0) ∷ [])) (R (v 2) (v 3) ∷ B (v 3) (v 2) ∷ [])
+    ∷ keeps [] (query [] (B (v 1) (v 0) ∷ B (v 3) (v 2) ∷ R (v 2) (v 3) ∷ R (v 0) (v 1) ∷ [])) (R (v 2) (v 3) ∷ B (v 3) (v 2) ∷ [])
+    -- of rows that repeat each other one stays
     ∷ keeps [] (query [] (R (v 1) (k 2) ∷ B (v 0) (v 1) ∷ R (v 1) (k 2) ∷ [])) (R (v 1) (k 2) ∷ B (v 0) (v 1) ∷ [])
     -- by relation first, whatever the entries
     ∷ keeps [] (query (v 0 ∷ []) (B (k 1) (v 0) ∷ S (v 0) (v 1) (v 2) ∷ R (v 0) (v 1) ∷ [])) (R (v 0) (v 1) ∷ S (v 0) (v 1) (v 2) ∷ B (k 1) (v 0) ∷ [])
@@ -251,6 +254,10 @@ kept_rows =
     -- each by number
     ∷ keeps [] (query (v 0 ∷ []) (R (v 0) (k 10) ∷ R (v 0) (k 9) ∷ [])) (R (v 0) (k 9) ∷ R (v 0) (k 10) ∷ [])
     ∷ keeps [] (query (v 10 ∷ v 9 ∷ []) (R (v 10) (k 4) ∷ R (v 9) (k 4) ∷ [])) (R (v 9) (k 4) ∷ R (v 10) (k 4) ∷ [])
+    -- variables by number, in the head or not
+    ∷ keeps [] (query (v 1 ∷ []) (B (v 1) (k 2) ∷ B (v 0) (v 1) ∷ [])) (B (v 0) (v 1) ∷ B (v 1) (k 2) ∷ [])
+    -- the first position where they differ tells, whatever the kinds after it
+    ∷ keeps [] (query (v 0 ∷ []) (R (k 2) (k 3) ∷ R (k 1) (v 0) ∷ [])) (R (k 1) (v 0) ∷ R (k 2) (k 3) ∷ [])
     -- from the left, and on where entries are equal
     ∷ keeps [] (query (v 0 ∷ []) (S (v 0) (k 2) (k 1) ∷ S (v 0) (k 1) (k 2) ∷ S (v 0) (k 1) (k 1) ∷ []))
     (S (v 0) (k 1) (k 1) ∷ S (v 0) (k 1) (k 2) ∷ S (v 0) (k 2) (k 1) ∷ [])

@@ -1,4 +1,4 @@
--- What a result of reduction is, and what demand 3 asks of it.
+-- What a result of reduction is, whichever rows stay in which order, and what demand 3 asks of it. The one that is given is `reduced` (`Kept`).
 use Rattle.std.specs.Prelude.{◌≡◌, ◌≢◌, ◌↔◌, List, [], ℕ, ◌≤◌, length}
 use Rattle.theory.specs.Query.{Entry, Row, Query, ◌∈◌, without}
 use Rattle.theory.specs.Database.{Database, Dependency, Legal}
@@ -14,7 +14,7 @@ abbrev pub Core : Query → Type 0
 Core q = (r : Row Entry) (at : r ∈ q.rows) → Mapping q (drop_row q at) → ⊥
 
 -- A result of reduction of S: the chased head with some of the chased rows, into which the chased query can be mapped and from which no row can go.
--- Which rows stay, and their order, is free. Where S chases to never, the result is that never
+-- This leaves open which rows stay and in which order. Where S chases to never, the result is that never
 pub record Reduction (ds : List Dependency) (S T : Query) : Type 0 where
   pub head : T.head ≡ (chase ds S).query.head
   pub rows : (r : Row Entry) → r ∈ T.rows → r ∈ (chase ds S).query.rows

@@ -1,4 +1,5 @@
--- What is proved of the results of reduction: of the one that is given, and of every one, whichever rows stay in which order. Each statement is proved in `proofs/Theorems`.
+-- What is proved of the results of reduction: of the one that is given, and of every one, whichever rows stay in which order.
+-- Each statement is proved in `proofs/Theorems`.
 use Rattle.std.specs.Prelude.{◌≡◌, ◌≢◌, ◌↔◌, List, [], ℕ, ◌≤◌, length}
 use Rattle.theory.specs.Query.{Entry, Row, Query, RowsFit, WellFormed, ◌∈◌, without}
 use Rattle.theory.specs.Database.{Database, Dependency, Obeys}

@@ -1,6 +1,6 @@
 -- A search for a mapping that computes: depth first over the rows of the one query and, for each, over the rows of the other.
 -- It finds a mapping exactly where there is one (`ContainmentTheorems`). The engine's own search is another, with the same meaning.
-use Rattle.std.specs.Prelude.{Bool, true, false, cond, List, [], ◌∷◌, ◌++◌, ℕ, eqb}
+use Rattle.std.specs.Prelude.{Bool, true, false, cond, List, [], ◌∷◌, ℕ, eqb}
 use Rattle.std.proofs.Math.Option.{Option, none, some, bind, or_else}
 use Rattle.theory.specs.Query.{Entry, constant, variable, Row, Query, same_entry}
 use Rattle.theory.specs.Database.{Dependency}

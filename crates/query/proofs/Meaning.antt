@@ -82,10 +82,10 @@ stored-back most schema narrow q shaped good =
     (ap₂ (λ (a b : ℕ). a - b) (sym s.relations) size)
     ∙ sym (relations-padded most schema q good)
     in
-    let cells : row_cells (query_of schema q).rows ++ replicate (8 * most - 8 * length (query_of schema q).rows) no_cell ≡ q.cells =
+    let cells : row_cells (query_of schema q).rows ++ replicate (8 * (most - length (query_of schema q).rows)) no_cell ≡ q.cells =
     ap₂ (λ (l : List Cell) (n : ℕ). l ++ replicate n no_cell)
     (rows-back schema narrow (take q.size q.relations) q.cells (omega (arith, named, g.size, s.cells)) g.rows ∙ ap (λ (n : ℕ). take (8 * n) q.cells) named)
-    (ap₂ (λ (a b : ℕ). a - 8 * b) (sym s.cells) size)
+    (omega (arith, s.cells, size))
     ∙ sym (cells-padded most schema q good)
     in
     λ i. record { arity = arity i; size = size i; head = head i; relations = relations i; cells = cells i }

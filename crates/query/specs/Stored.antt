@@ -21,7 +21,7 @@ unfoldable pub row_cells : List (theory.Row theory.Entry) → List Cell
 row_cells [] = []
 row_cells (r ∷ rows) = cells_from 8 r.values ++ row_cells rows
 
--- The stored query that stands for a query
+-- The stored query that stands for a query, with room for `most` rows
 abbrev pub stored_form : ℕ → theory.Query → Query
 stored_form most q =
     record {
@@ -29,5 +29,5 @@ stored_form most q =
       size = length q.rows;
       head = cells_from 8 q.head;
       relations = map (λ r. r.relation) q.rows ++ replicate (most - length q.rows) 0;
-      cells = row_cells q.rows ++ replicate (8 * most - 8 * length q.rows) no_cell;
+      cells = row_cells q.rows ++ replicate (8 * (most - length q.rows)) no_cell;
     }

@@ -18,7 +18,7 @@ use Rattle.theory.specs.Answer.{Answer, Mapping}
 use Rattle.theory.specs.Chase.{chase, chase_for, chase_on, step, first_broken, first_found}
 use Rattle.minimization.specs.Reduction.{Reduction}
 use Rattle.minimization.proofs.Reduction.{reduction-answers, reduction-wellformed}
-use Rattle.minimization.specs.Kept.{core, sorted}
+use Rattle.minimization.specs.Kept.{core_of, sorted}
 use Rattle.minimization.proofs.Kept.{reduced-reduction, kept-some}
 use Rattle.folding.specs.internal.Kept.{marked, IsKept}
 use Rattle.query_core.specs.internal.CoreOf.{IsCoreOf}
@@ -29,8 +29,8 @@ chase-nothing : (q : theory.Query) → (chase [] q).query ≡ q
 unfolding chase chase_for chase_on step first_broken first_found
 chase-nothing q = refl
 
-core-reduction : (q : theory.Query) → Reduction [] q (core q)
-core-reduction q = subst (λ (x : theory.Query). Reduction [] q (core x)) (chase-nothing q) (reduced-reduction [] q)
+core-reduction : (q : theory.Query) → Reduction [] q (core_of q)
+core-reduction q = subst (λ (x : theory.Query). Reduction [] q (core_of x)) (chase-nothing q) (reduced-reduction [] q)
 
 -- ---- the core of a stored query
 
@@ -62,11 +62,11 @@ module _ (schema : List ℕ) (q r : Query) (p : IsCoreOf schema q r) where
   pub core-answers : (D : Database) (t : List ℕ) → Answer D (query_of schema q) t ↔ Answer D (query_of schema r) t
   core-answers D t =
       subst (λ (x : theory.Query). Answer D (query_of schema q) t ↔ Answer D x t) (sym p.view)
-      (reduction-answers [] (query_of schema q) (core (query_of schema q)) (core-reduction (query_of schema q)) D (λ d at. absurd (Memᴰ.not-nil at)) t)
+      (reduction-answers [] (query_of schema q) (core_of (query_of schema q)) (core-reduction (query_of schema q)) D (λ d at. absurd (Memᴰ.not-nil at)) t)
 
   -- Each head variable still occurs in a row
   pub core-safe : WellFormed schema (query_of schema q) → (v : ℕ) → v ∈ variables_of (query_of schema r).head
       → v ∈ variables_of (row_entries (query_of schema r).rows)
   core-safe well =
       subst (λ (x : theory.Query). (v : ℕ) → v ∈ variables_of x.head → v ∈ variables_of (row_entries x.rows)) (sym p.view)
-      (reduction-wellformed schema [] (query_of schema q) (core (query_of schema q)) well (core-reduction (query_of schema q))).head-safe
+      (reduction-wellformed schema [] (query_of schema q) (core_of (query_of schema q)) well (core-reduction (query_of schema q))).head-safe

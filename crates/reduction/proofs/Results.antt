@@ -37,7 +37,7 @@ use Rattle.theory.specs.Answer.{IsMapping, Mapping}
 use Rattle.theory.specs.Chase.{chase}
 use Rattle.theory.specs.Database as database
 use Rattle.minimization.specs.Reduction.{Reduction}
-use Rattle.minimization.specs.Kept.{core, reduced}
+use Rattle.minimization.specs.Kept.{core_of, reduced}
 use Rattle.minimization.proofs.Kept.{reduced-reduction}
 use Rattle.query.specs.Stored.{stored_form}
 use Rattle.query.proofs.Meaning.{stored-back}
@@ -100,7 +100,7 @@ unfolding head_safe
 shortened schema ds q query result count mapped widths long good safe is counted p m =
     let S = query_of schema q in
     let T = query_of schema result in
-    let given : T ≡ reduced ds S = p.view ∙ ap core is in
+    let given : T ≡ reduced ds S = p.view ∙ ap core_of is in
     let result-is : Reduction ds S T = subst (Reduction ds S) (sym given) (reduced-reduction ds S) in
     let well : WellFormed schema S = well-formed 12 schema (width-le schema widths) q good long safe in
     record {

@@ -1,5 +1,4 @@
-// Reducing the query of one place into a vacant one: chase it, lose rows while it can be mapped into itself without one of them, and find a mapping from the
-// query as it was stored.
+// Reducing the query of one place into a vacant one: chase it, take the core of what that gives, and find a mapping from the query as it was stored.
 #![tactic(auto)]
 
 ghost use Rattle.std.specs.Prelude.{◌≡◌, ℕ, true, List, map};
@@ -48,7 +47,7 @@ fn refused(refusal: Refusal, given: Record) -> Reduced
     }
 }
 
-// Shortens a query: chases it, loses rows, and finds a mapping from the query as it was.
+// Shortens a query: chases it, takes its core, the rows that are kept in their order, and finds a mapping from the query as it was.
 fn shorten(q: Query, dependencies: &[Dependency]) -> Shortened
     requires { Shortenable q dependencies.now }
     ensures { (schema : List ℕ) → every (between 1 8) schema ≡ true → good_query schema q ≡ true → head_safe schema q ≡ true → IsShortened schema
