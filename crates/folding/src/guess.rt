@@ -17,7 +17,23 @@ pub fn originals(target: &[u32; 200], offered: [u8; 24], size: usize) -> [u8; 13
     all
 }
 
-// Where the rows that are left go if row i goes to row d: each stays where it can, or goes to the first row that it can go to. None where one can go nowhere.
+// Whether row q, if it moves, goes together with the rows that are left as they go.
+fn keeps_pace(pairs: &[u32; 4056], size: usize, rest: u32, step: &[u8; 13], q: usize) -> bool
+    requires { (size ≤ 12) × (q < size) }
+{
+    let e = usize::from(step[q].min(23));
+    if e == q || (rest >> q) % 2 == 0 {
+        return true;
+    }
+    let row = &pairs[(q * 24 + e) * 13..(q * 24 + e) * 13 + 13];
+    row.iter()
+        .zip(step)
+        .enumerate()
+        .all(|(p, (&mask, &f))| (rest >> p) % 2 == 0 || (mask >> f.min(23)) % 2 == 1)
+}
+
+// Where the rows that are left go if row i goes to row d: each stays where it can, or goes to the first row that it can go to. None where one can go
+// nowhere, or one that moves does not go together with the others.
 fn moves(
     domain: &[u32; 13],
     pairs: &[u32; 4056],
@@ -43,7 +59,11 @@ fn moves(
         }
     }
     step[i] = d as u8;
-    Some(step)
+    if (0..size).all(|q| keeps_pace(pairs, size, rest, &step, q)) {
+        Some(step)
+    } else {
+        None
+    }
 }
 
 // The one choice after the other, as a choice. The head stays.
