@@ -103,7 +103,7 @@ unfolding kept_after
 kept-never q none = ap (kept_after [] q) none
 
 -- Of the chased query they make a result
-kept-reduction : (ds : List Dependency) (S : Query) → Reduction ds S (with_rows (chase ds S).query (kept (chase ds S).query))
+pub kept-reduction : (ds : List Dependency) (S : Query) → Reduction ds S (with_rows (chase ds S).query (kept (chase ds S).query))
 kept-reduction ds S = list_cases q.rows never nonempty
   where
     q : Query
@@ -159,7 +159,7 @@ insert-row r (s ∷ rows) = go (row_before s r) (insert-row r rows)
         back t (Memᴰ.tail (Memᴰ.tail there)) = Memᴰ.tail (later.1 t (Memᴰ.tail there))
 
 -- Rows in their order are the same rows, and as many
-sorted-rows : (rows : List (Row Entry)) → (rows ⊆ sorted rows) × (sorted rows ⊆ rows) × (length (sorted rows) ≡ length rows)
+pub sorted-rows : (rows : List (Row Entry)) → (rows ⊆ sorted rows) × (sorted rows ⊆ rows) × (length (sorted rows) ≡ length rows)
 unfolding sorted
 sorted-rows [] = (λ r at. at, λ r at. at, refl)
 sorted-rows (r ∷ rows) =

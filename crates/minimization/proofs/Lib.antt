@@ -4,5 +4,6 @@ pub mod Reduction
 pub mod Search
 pub mod Checking
 pub mod Kept
+pub mod Order
 pub mod Examples
 pub mod Theorems

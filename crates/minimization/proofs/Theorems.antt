@@ -17,6 +17,7 @@ use Rattle.minimization.proofs.Reduction.{reduction-mapping, reduction-never, re
 use Rattle.minimization.proofs.Reduction.{shrinks-reduction, reduction-shrinks}
 use Rattle.minimization.proofs.Search.{mappable-exact, contained-exact, contained-false, both_below}
 use Rattle.minimization.proofs.Kept.{reduced-reduction}
+use Rattle.minimization.proofs.Order.{reduced-order}
 use Rattle.minimization.proofs.Examples.{examples-meaning}
 
 -- ---- containment
@@ -63,6 +64,9 @@ result-exists ds S = (_, reduced-reduction ds S)
 
 pub reduced-is-result : reduction.ReducedIsResult
 reduced-is-result = reduced-reduction
+
+pub reduced-ascends : reduction.ReducedAscends
+reduced-ascends = reduced-order
 
 pub results-exactly : reduction.ResultsExactly
 results-exactly ds S T = (

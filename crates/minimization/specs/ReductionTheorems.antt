@@ -6,7 +6,7 @@ use Rattle.theory.specs.Database.{Database, Dependency, Obeys}
 use Rattle.theory.specs.Answer.{Answer, Mapping}
 use Rattle.theory.specs.Chase.{chase}
 use Rattle.minimization.specs.Reduction.{Reduction, Shrinks, Reordered, Rival, Minimal}
-use Rattle.minimization.specs.Kept.{reduced}
+use Rattle.minimization.specs.Kept.{Ascend, reduced}
 
 -- Every query has a result
 abbrev pub ResultExists : Type 0
@@ -15,6 +15,10 @@ ResultExists = (ds : List Dependency) (S : Query) → (T : Query) × Reduction d
 -- `reduced` is one
 abbrev pub ReducedIsResult : Type 0
 ReducedIsResult = (ds : List Dependency) (S : Query) → Reduction ds S (reduced ds S)
+
+-- The rows of the result that is given ascend, so that no other order of them does
+abbrev pub ReducedAscends : Type 0
+ReducedAscends = (widths : List ℕ) (ds : List Dependency) (S : Query) → RowsFit widths S → Ascend (reduced ds S).rows
 
 -- The results are what the chased query comes to by losing rows one at a time, in any order of rows
 abbrev pub ResultsExactly : Type 0
