@@ -16,7 +16,7 @@ ResultExists = (ds : List Dependency) (S : Query) → (T : Query) × Reduction d
 abbrev pub ReducedIsResult : Type 0
 ReducedIsResult = (ds : List Dependency) (S : Query) → Reduction ds S (reduced ds S)
 
--- The rows of the result that is given ascend, so that no other order of them does
+-- The rows of the result that is given ascend
 abbrev pub ReducedAscends : Type 0
 ReducedAscends = (widths : List ℕ) (ds : List Dependency) (S : Query) → RowsFit widths S → Ascend (reduced ds S).rows
 
