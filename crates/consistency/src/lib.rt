@@ -23,7 +23,7 @@ pub struct State {
 
 // The candidates that each row has lost since other rows were last compared with it, and the rows that have lost some. All ones
 // where other rows were never compared with it.
-// Kept as it is: nothing is said of it: what it leaves out is only not looked at.
+// Kept as it is: nothing is said of it, since what it leaves out is only not looked at.
 #[derive(Drop)]
 struct Lost {
     rows: u16,
@@ -177,8 +177,8 @@ fn revise(
     lost.rows |= 1 << q;
 }
 
-// The rows linked to row p that are not placed are compared with it. With few candidates left to row p, it is less work to look at
-// those than at what it has lost.
+// The rows linked to row p are compared with it, but for placed ones: what is left to other rows goes together with their choices.
+// With few candidates left to row p, it is less work to look at those than at what it has lost.
 fn spread(
     links: &[u16; 13],
     table: &[u32; 4056],
