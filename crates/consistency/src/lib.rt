@@ -23,38 +23,45 @@ pub struct State {
 
 // The candidates that each row has lost since other rows were last compared with it, and the rows that have lost some. All ones
 // where other rows were never compared with it.
-// Kept as it is: nothing is said of it: what it leaves out is only not looked at.
+// Kept as it is: nothing is said of it, since what it leaves out is only not looked at.
 #[derive(Drop)]
 struct Lost {
     rows: u16,
     candidates: [u32; 13],
 }
 
-// Whether some candidate of row r excludes some candidate of row q.
+// The candidates of each row that every candidate of row r goes together with.
 // Kept as it is: domain, table, links, rows and state stay parameters here and below: each function reads others of them, and none all five.
-fn restricts(domain: &[u32; 13], table: &[u32; 4056], r: usize, q: usize) -> bool
-    requires { (r < 13) × (q < 13) }
+fn common(domain: &[u32; 13], table: &[u32; 4056], r: usize) -> [u32; 13]
+    requires { r < 13 }
 {
-    let own = domain[r];
-    let other = domain[q];
-    // one past the last candidate
-    let end = 32u32.saturating_sub(own.leading_zeros()).min(24) as usize;
-    (0..end).any(|d| (own >> d) % 2 == 1 && table[(r * 24 + d) * 13 + q] & other != other)
+    let mut all = *domain;
+    let mut rest = domain[r] & 0xff_ffff;
+    while rest != 0 {
+        let d = rest.trailing_zeros() as usize;
+        let start = (r * 24 + d) * 13;
+        // Kept as it is: the index serves the table and the masks. A `zip` with a part of the table, which takes as long, would owe where the part ends.
+        for q in 0..13 {
+            all[q] &= table[start + q];
+        }
+        rest &= !(1 << d);
+    }
+    all
 }
 
 // The other rows that have candidates which some candidate of row r excludes.
 fn links_of(domain: &[u32; 13], table: &[u32; 4056], rows: usize, r: usize) -> u16
     requires { (rows ≤ 13) × (r < rows) }
 {
+    let left = common(domain, table, r);
     let mut mask: u16 = 0;
-    // Kept as it is: q is a row's number and indexes nothing here; a chain would be a `filter` and a `fold` with the same test and the same bit, and
-    // `marks_where` of `candidates` stands above this crate.
+    // Kept as it is: the index serves two arrays, and is a bit of the mask.
     for q in 0..rows {
-        if q != r && restricts(domain, table, r, q) {
+        if left[q] != domain[q] {
             mask |= 1 << q;
         }
     }
-    mask
+    mask & !(1 << r)
 }
 
 // The links of each row.
@@ -170,8 +177,8 @@ fn revise(
     lost.rows |= 1 << q;
 }
 
-// The rows linked to row p that are not placed are compared with it. With few candidates left to row p, it is less work to look at
-// those than at what it has lost.
+// The rows linked to row p are compared with it, but for placed ones: what is left to other rows goes together with their choices.
+// With few candidates left to row p, it is less work to look at those than at what it has lost.
 fn spread(
     links: &[u16; 13],
     table: &[u32; 4056],

@@ -98,8 +98,8 @@ fn test_choices(
 // candidate goes together with itself, the test finds nothing.)
 //
 // The work left falls with each call, and a row takes at most 26 of it. Calls go at most 326 deep: for each of 13 rows one that
-// places it and 24 that try a candidate, and the last. Compiled, placing takes 0.41 KB and trying 0.64 KB, so 205 KB of stack
-// at the deepest, and 106 KB where there are at most 12 candidates.
+// places it and 24 that try a candidate, and the last. Compiled, placing takes 0.41 KB and trying 0.61 KB, so 196 KB of stack
+// at the deepest, and 101 KB where there are at most 12 candidates.
 // Kept as it is: domain, table, links and rows stay parameters: `next_row`, `test_choices` and `choose` take two or three of them, and `folding` searches
 // with other domains beside the same table and links, so that a struct of the four would be made anew for each of its searches.
 #[cycle(place_row_try_candidate)]

@@ -43,8 +43,9 @@ returns c f =
     in
     let left : (q : ℕ) → q < a.rows → Solution a.rows a.domain.now a.table.now f → Bit (get_or t.result.current q 0) (f q) =
     λ q h sol.
-        t.ensures.sound a.domain.now sound q h f sol
-        (λ p at. absurd (bit-zero p (subst (λ (m : ℕ). Bit m p) (t.ensures.placed ∙ first.ensures.0) at)))
-    in
-    (fewer a.rows c.requires a.domain.now t.result.current l.mask-items a.table.now each f left,
-    more a.rows c.requires a.domain.now t.result.current l.mask-items a.table.now each f)
+    t.ensures.sound a.domain.now sound q h f sol
+    (λ p at. absurd (bit-zero p (subst (λ (m : ℕ). Bit m p) (t.ensures.placed ∙ first.ensures.0) at)))
+    in (
+      fewer a.rows c.requires a.domain.now t.result.current l.mask-items a.table.now each f left,
+      more a.rows c.requires a.domain.now t.result.current l.mask-items a.table.now each f,
+    )
