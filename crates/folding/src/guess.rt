@@ -78,7 +78,10 @@ fn followed(fold: [u8; 13], step: [u8; 13], size: usize) -> [u8; 13]
     all
 }
 
-// A solution guessed from one into the rows that are left: row i goes elsewhere. None says nothing.
+// The choice that leaves each row where it is.
+const STAYING: [u8; 13] = [0, 1, 2, 3, 4, 5, 6, 7, 8, 9, 10, 11, 12];
+
+// A solution guessed from one into the rows that are left: that one, where no row goes to row i, or else row i goes elsewhere. None says nothing.
 pub fn guess(
     domain: &[u32; 13],
     pairs: &[u32; 4056],
@@ -90,6 +93,12 @@ pub fn guess(
     requires { (size ≤ 12) × (i < size) }
     ensures { IfSome result (λ chosen. Solution (size + 1) domain.now pairs.now (λ r. get_or chosen r 0)) }
 {
+    if fold[..size].iter().all(|&d| usize::from(d) != i) {
+        let same = followed(fold, STAYING, size);
+        if solves(domain, pairs, size + 1, same) {
+            return Some(same);
+        }
+    }
     // Kept as it is: d is a row's number and a bit of the mask, and indexes nothing here.
     for d in 0..size {
         if (domain[i] >> d) % 2 == 1 {
