@@ -1,9 +1,8 @@
 -- The state of the loop over a query's rows, from the last to the first. Assumes nothing.
-use mathlib.Core.Path.{◌≡◌, sym, subst}
-use mathlib.Core.Logic.{inl, inr}
+use mathlib.Core.Path.{◌≡◌}
 use mathlib.Core.List.{List}
 use lib.ListN.{drop, take}
-use Prim.Native.Nat.{ℕ, ◌+◌, ◌/◌, ◌^◌, ◌<◌}
+use Prim.Native.Nat.{ℕ, ◌/◌, ◌^◌, ◌<◌}
 use Rattle.consistency.specs.internal.Solution.{Bit}
 use Rattle.candidates.specs.internal.Candidates.{Repeats}
 use Rattle.theory.specs.Query as theory

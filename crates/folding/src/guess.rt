@@ -26,10 +26,8 @@ fn keeps_pace(pairs: &[u32; 4056], size: usize, rest: u32, step: &[u8; 13], q: u
         return true;
     }
     let row = &pairs[(q * 24 + e) * 13..(q * 24 + e) * 13 + 13];
-    row.iter()
-        .zip(step)
-        .enumerate()
-        .all(|(p, (&mask, &f))| (rest >> p) % 2 == 0 || (mask >> f.min(23)) % 2 == 1)
+    row.iter().zip(step).enumerate().all(|(p, (&mask, &f))| (rest >> p) % 2 == 0
+        || (mask >> f.min(23)) % 2 == 1)
 }
 
 // Where the rows that are left go if row i goes to row d: each stays where it can, or goes to the first row that it can go to. None where one can go

@@ -9,7 +9,6 @@ use borrow.Author.Tests.{ltb-true, ltb-false, lt-ltb, le-ltb}
 use Rattle.theory.specs.Query as theory
 use Rattle.theory.specs.Answer.{value_of}
 use Rattle.theory.specs.Containment.{freeze}
-use Rattle.query.specs.declared.Entry.{Entry}
 use Rattle.query.specs.declared.Entry.TheVariants.{Constant, Variable}
 use Rattle.query.specs.internal.Code.{decoded}
 use Rattle.query.proofs.Stored.{Within}

@@ -8,7 +8,6 @@ use native.Mathlib.Omega.{arith}
 use lib.Dec.{eqb}
 use lib.ListN.{length, length-map, take, drop, get_or, replicate, length-drop}
 use lib.Seq.{length-take-le, take-add, take-take}
-use Rattle.theory.specs.Query as theory
 use Rattle.lists.specs.Tests.{every}
 use Rattle.lists.proofs.Tests.{used-blank, padded, every_drop}
 use Rattle.query.specs.declared.Entry.{Entry}
@@ -20,7 +19,7 @@ use Rattle.query.specs.Stored.{entry_from, cells_from, row_cells, stored_form}
 use Rattle.query.specs.Meaning.{StoredBack, StoredUnique}
 use Rattle.query.proofs.Good.{good-query}
 use Rattle.query.proofs.Stored.{row-parts, rows-first, rows-rest}
-use Rattle.query.proofs.Shape.{shaped-sized, blank-cell, head-length, row_count, rows-length, head-padded, relations-padded, cells-padded}
+use Rattle.query.proofs.Shape.{shaped-sized, blank-cell, head-length, row_count, relations-padded, cells-padded}
 
 -- ---- 1. entries
 

@@ -14,7 +14,7 @@ use Rattle.query.specs.View.{query_of}
 use Rattle.theory.specs.Query as theory
 use Rattle.theory.specs.Query.{WellFormed, variables_of, row_entries, ◌∈◌}
 use Rattle.theory.specs.Database.{Database}
-use Rattle.theory.specs.Answer.{Answer, Mapping}
+use Rattle.theory.specs.Answer.{Answer}
 use Rattle.theory.specs.Chase.{chase, chase_for, chase_on, step, first_broken, first_found}
 use Rattle.minimization.specs.Reduction.{Reduction}
 use Rattle.minimization.proofs.Reduction.{reduction-answers, reduction-wellformed}

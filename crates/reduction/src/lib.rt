@@ -7,9 +7,10 @@ ghost use Rattle.query.specs.Rule.{good_query, head_safe};
 ghost use Rattle.query.specs.View.{dependency_of};
 ghost use Rattle.refusals.specs.Refusal.{number_of};
 ghost use Rattle.reduction.specs.Reduced.{reduced_reply, refused_reduction, IsReduced, ShortFormStored};
-ghost use Rattle.reduction.specs.internal.Steps.{Shortenable, IsShortened, Reducible};
+ghost use Rattle.mapping.specs.internal.Mapped.{Storable};
+ghost use Rattle.reduction.specs.internal.Steps.{Shortenable, IsShortened, Maps, Reducible};
 
-use query::{Cell, Dependency, Place, Query};
+use query::{Cell, Dependency, Entry, Place, Query};
 use record::Record;
 use record::calls::{stored, with_place};
 use refusals::Refusal;
@@ -47,6 +48,33 @@ fn refused(refusal: Refusal, given: Record) -> Reduced
     }
 }
 
+// Each variable of the query goes to itself, and those that it does not have to constant 0.
+fn staying(q: Query) -> [Cell; 96] {
+    let mut images = [query::NO_CELL; 96];
+    for &cell in &q.cells {
+        if let Entry::Variable(v) = cell.entry {
+            if let Some(image) = images.get_mut(usize::from(v)) {
+                *image = cell;
+            }
+        }
+    }
+    images
+}
+
+// A mapping from one query to another, if there is one. Where both have equally many rows, the variables may stay as they are: that is tested first.
+fn mapped(source: Query, target: Query) -> Option<[Cell; 96]>
+    requires { Storable source × Storable target }
+    ensures { Maps source target result }
+{
+    if source.size == target.size {
+        let images = staying(source);
+        if mapping::check(source, target, images) {
+            return Some(images);
+        }
+    }
+    mapping::find(source, from_query(target))
+}
+
 // Shortens a query: chases it, takes its core, the rows that are kept in their order, and finds a mapping from the query as it was.
 fn shorten(q: Query, dependencies: &[Dependency]) -> Shortened
     requires { Shortenable q dependencies.now }
@@ -56,11 +84,11 @@ fn shorten(q: Query, dependencies: &[Dependency]) -> Shortened
     let chased = chase::chase(from_query(q), dependencies);
     let query = to_query(chased.query);
     let result = query_core::core_of(query);
-    let mapped = mapping::find(q, from_query(result));
+    let images = mapped(q, result);
     Shortened {
         query: result,
         count: chased.count,
-        images: mapped.unwrap_or([query::NO_CELL; 96]),
+        images: images.unwrap_or([query::NO_CELL; 96]),
     }
 }
 

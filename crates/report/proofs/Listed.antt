@@ -14,7 +14,7 @@ use Rattle.record.specs.declared.Record.{Record}
 use Rattle.record.specs.View.{schema_of, dependencies_of}
 use Rattle.query.specs.View.{query_of, images_of}
 use Rattle.lists.specs.Tests.{every}
-use Rattle.query.specs.Rule.{good_cell, good_query, head_safe, no_place, place_with}
+use Rattle.query.specs.Rule.{good_cell, good_query, head_safe, no_place}
 use Rattle.record.specs.Rule.{good_record}
 use Rattle.record.specs.Calls.{is_filled, stored_at, query_at}
 use Rattle.query.proofs.Good.{good-query}

@@ -1,7 +1,7 @@
 -- What `place_row` and `try_candidate` ask of each other at each call, and what they answer.
 -- The work: placing asks for more than 26 for each row that is not placed, trying for 26 less what the candidates passed have
 -- cost, and each call takes 1. Assumes nothing.
-use mathlib.Core.Path.{◌≡◌, subst, subst⁻¹}
+use mathlib.Core.Path.{◌≡◌, subst⁻¹}
 use Rattle.std.specs.Prelude.{Some}
 use mathlib.Core.List.{List}
 use Prim.Native.Nat.{ℕ, ◌+◌, ◌-◌, ◌*◌, ◌^◌, ◌<◌, ◌≤◌}

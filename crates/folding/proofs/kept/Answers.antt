@@ -13,7 +13,6 @@ use Rattle.query.proofs.Good.{good-query}
 use Rattle.query.proofs.Shape.{SizedFor}
 use Rattle.candidates.specs.internal.Candidates.{Laid, Marks, Repeats}
 use Rattle.mapping.proofs.Results.{line_code}
-use Rattle.tableaux.specs.internal.Tableaux.{tableau_of}
 use Rattle.folding.proofs.Theory.{Made, make, Trying, trying-start, trying-next, trying-end}
 use Rattle.folding.specs.internal.Kept.{Readable}
 use Rattle.folding.proofs.kept.Goals as goal

@@ -1,6 +1,6 @@
 -- `folding::kept` keeps the rows that are to be kept: the candidates and the table are made, repeats go, and each row is tried. The loop's invariant is that of
 -- `Theory`, whichever query the candidates are of. Assumes nothing.
-use Prim.Native.Nat.{ℕ, ◌^◌, ◌≤◌, ◌<◌}
+use Prim.Native.Nat.{◌^◌, ◌≤◌, ◌<◌}
 use Rattle.folding.proofs.Theory.{Trying}
 use Rattle.folding.proofs.kept.Given as goal
 

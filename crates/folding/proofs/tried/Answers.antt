@@ -1,9 +1,7 @@
 -- `folding::tried` lets a row go where the query can be mapped into the others. Assumes nothing.
-use Rattle.std.proofs.Common.{◌≡◌, refl, sym, ◌∙◌, subst, List, ℕ, ◌+◌, get_or}
-use Rattle.std.specs.Prelude.{Option, Some, None, IfSome, IsNone}
+use Rattle.std.proofs.Common.{refl}
 use mathlib.Core.Logic.{inl, inr}
 use Rattle.candidates.proofs.Masks.{has-below}
-use Rattle.consistency.specs.internal.Solution.{Solution}
 use Rattle.folding.proofs.Left.{among-solution, solution-among}
 use Rattle.folding.proofs.tried.Goals as goal
 

@@ -1,5 +1,5 @@
 -- The rows of a stored query that are kept, as a mask: bit d for row d.
-use Rattle.std.specs.Prelude.{◌≡◌, true, Bool, cond, List, [], ◌∷◌, ℕ, ◌/◌, ◌%◌, ◌==◌}
+use Rattle.std.specs.Prelude.{◌≡◌, true, cond, List, [], ◌∷◌, ℕ, ◌/◌, ◌%◌, ◌==◌}
 use Rattle.query.specs.Types.{Query}
 use Rattle.query.specs.View.{query_of}
 use Rattle.query.specs.Rule.{good_query}

@@ -1,5 +1,5 @@
 -- `listing::write_long` takes no more of its buffer than has been read into it. Assumes nothing.
-use Rattle.std.proofs.Common.{rules, ◌≡◌, sym, ℕ, ◌+◌, ◌≤◌, ◌++◌, length, length-append, arith}
+use Rattle.std.proofs.Common.{rules, ◌≡◌, sym, ◌+◌, ◌≤◌, ◌++◌, length, length-append, arith}
 use lib.Seq.{length-take-le}
 use Rattle.listing.proofs.write_long.Goals as goal
 

@@ -3,22 +3,19 @@ use Rattle.std.proofs.Common.{◌≡◌, ℕ, ◌*◌, ◌≤◌, true, List, ma
 use Rattle.lists.specs.Tests.{every, between}
 use Rattle.lists.proofs.Loops.{mapped-length}
 use Rattle.query.specs.Types.{Query}
-use Rattle.query.specs.Types.{Tableau}
-use Rattle.query.specs.View.{query_of, as_query, dependency_of}
+use Rattle.query.specs.View.{as_query, dependency_of}
 use Rattle.query.specs.declared.Cell.{Cell}
 use Rattle.reduction.specs.internal.Steps.{IsShortened}
 use Rattle.query.specs.Rule.{good_query, good_tableau}
 use Rattle.query.proofs.Good.{good-query}
 use Rattle.query.proofs.Shape.{SizedFor}
-use Rattle.theory.specs.Query as theory
-use Rattle.mapping.specs.internal.Mapped.{IsMapped}
 use Rattle.chase.specs.internal.Outcome.{IsChased}
 use Rattle.chase.proofs.Callers.{chasable, width-le}
 use Rattle.tableaux.specs.internal.Tableaux.{tableau_of, stored_of}
-use Rattle.tableaux.proofs.Tableaux.{tableau-query, tableau-good}
+use Rattle.tableaux.proofs.Tableaux.{tableau-good}
 use Rattle.reduction.proofs.Results.{chased-query, chased-counted, chased-good, shortened}
 use Rattle.reduction.proofs.shorten.Goals as goal
-use Rattle.reduction.proofs.shorten.Goals.{After-from_query, After-to_query-query, After-from_query-2}
+use Rattle.reduction.proofs.shorten.Goals.{After-from_query, After-to_query-query}
 
 -- The arrays of the query are as long as its type says
 sized : (c : After-from_query) → SizedFor 12 c.args.q
@@ -61,29 +58,13 @@ core_of-result-requires c =
     let p = c.requires in
     (p.schema, width-le p.schema p.widths, good-again (goal.at.core_of-result-requires c).After-to_query-query p.schema p.widths p.query-good)
 
-module _ (c : After-from_query-2) where
-  -- The arrays of the result are as long as its type says
-  result-sized : SizedFor 12 c.core_of-result.result
-  result-sized =
-      let ok = c.core_of-result.type_inv in
-      record {
-        head = search (mapped-length, rules, ok);
-        relations = search (mapped-length, rules, ok);
-        cells = search (mapped-length, rules, ok);
-      }
-
-  -- Its tableau is good
-  result-good : (schema : List ℕ) → good_query schema c.core_of-result.result ≡ true → good_tableau schema c.from_query-2.result ≡ true
-  result-good schema good =
-      ap (good_tableau schema) c.from_query-2.ensures ∙ tableau-good schema c.core_of-result.result result-sized good
-
-pub find-mapped-requires : goal.find-mapped-requires
-find-mapped-requires c =
+pub mapped-images-requires : goal.mapped-images-requires
+mapped-images-requires c =
     let p = c.requires in
-    let at = goal.at.find-mapped-requires c in
+    let at = goal.at.mapped-images-requires c in
     let again = good-again at.After-to_query-query p.schema p.widths p.query-good in
     let core = c.core_of-result.ensures p.schema (width-le p.schema p.widths) again in
-    ((p.schema, p.query-good), (p.schema, result-good at.After-from_query-2 p.schema core.good))
+    ((p.schema, p.query-good), (p.schema, core.good))
 
 pub returns : goal.returns
 returns c =
@@ -99,20 +80,14 @@ returns c =
     let p = c.core_of-result.ensures schema narrow (good-again cored schema widths good) in
     let long : 8 * q.size ≤ length q.cells = omega (arith, s.cells, (good-query 12 schema q good).size) in
     let query-is = c.to_query-query.ensures in
-    let tableau-is = c.from_query-2.ensures in
-    let same : q.arity ≡ c.from_query-2.result.arity =
-    sym (ap (λ (t : Tableau). t.arity) tableau-is ∙ p.same-arity ∙ ap (λ (x : Query). x.arity) query-is ∙ is.same-arity)
-    in
+    let same : q.arity ≡ c.core_of-result.result.arity = sym (p.same-arity ∙ ap (λ (x : Query). x.arity) query-is ∙ is.same-arity) in
     let told = shortened schema _ q (stored_of c.chase-chased.result.query) c.core_of-result.result c.chase-chased.result.count
-    c.find-mapped.result
+    c.mapped-images.result
     widths long good safe
     (chased-query schema widths a.dependencies.now q s good c.chase-chased.result is (roomy cored))
     (chased-counted schema widths a.dependencies.now q s good c.chase-chased.result is (roomy cored))
     (rw query-is at p)
-    (subst (λ (T : theory.Query). IsMapped (query_of schema q) T c.find-mapped.result)
-    (ap (λ (t : Tableau). query_of schema (as_query t)) tableau-is
-    ∙ tableau-query schema c.core_of-result.result (result-sized at.After-from_query-2) p.good narrow)
-    (c.find-mapped.ensures schema narrow good (result-good at.After-from_query-2 schema p.good) same))
+    (c.mapped-images.ensures schema narrow good p.good same)
     in
     subst
     (λ (images : List Cell).

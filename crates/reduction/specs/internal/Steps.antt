@@ -1,6 +1,8 @@
 -- What the steps of a reduction ask and promise: the shortened query, and the record that has it. The promise of the call itself is in `Reduced`.
-use Rattle.std.specs.Prelude.{◌≡◌, ℕ, ◌<◌, true, List, [], replicate}
+use Rattle.std.specs.Prelude.{◌≡◌, ℕ, ◌<◌, true, List, [], Option, replicate}
 use Rattle.query.specs.Types.{Query}
+use Rattle.query.specs.declared.Cell.{Cell}
+use Rattle.mapping.specs.internal.Mapped.{Narrow, IsMapped}
 use Rattle.query.specs.declared.Dependency.{Dependency}
 use Rattle.record.specs.declared.Record.{Record}
 use Rattle.query.specs.View.{query_of, images_of}
@@ -25,6 +27,12 @@ pub record IsShortened (schema : List ℕ) (ds : List database.Dependency) (q : 
   pub safe : head_safe schema r.query ≡ true
   pub reduces : ReducesTo schema ds (query_of schema q) (query_of schema r.query) r.count (images_of r.images)
   pub no-mapping : (query_of schema r.query).rows ≡ [] → r.images ≡ replicate 96 no_cell
+
+-- What is found: images that are a mapping, or none where there is no mapping, of the queries that two stored ones are under every schema that makes both good
+abbrev pub Maps : Query → Query → Option (List Cell) → Type 0
+Maps source target r =
+    (schema : List ℕ) → Narrow schema → good_query schema source ≡ true → good_query schema target ≡ true → source.arity ≡ target.arity
+    → IsMapped (query_of schema source) (query_of schema target) r
 
 -- A good record whose source place is filled, and a target place
 pub record Reducible (r : Record) (source target : ℕ) : Type 0 where

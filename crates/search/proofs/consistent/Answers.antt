@@ -5,7 +5,6 @@ use Prim.Native.Nat.{ℕ, ◌≤◌, ◌<◌}
 use native.Mathlib.Omega.{arith}
 use lib.ListN.{get_or}
 use lib.Bits.{bit_and}
-use borrow.Author.Rules.{rules}
 use Rattle.consistency.specs.internal.Solution.{Bit, Solution}
 use Rattle.consistency.specs.internal.Consistent.{Accounted}
 use Rattle.consistency.proofs.Masks.{bit-and, bit-and-left, bit-zero}
