@@ -133,7 +133,8 @@ uint8_t spernevan_determined(const uint8_t *file, size_t file_length, uint8_t re
  * Reduces the query of a filled place into a vacant one, by the functional dependencies.
  * Takes a file and the two places. Returns 0 with the new file in `out`, its length in `*length`, the number of replacements in `*count`,
  * and in `mapping` a mapping from the source query to the result, all 0 where the result has no rows; or 1 to 6 or 15, then 7, 11, 12, 10.
- * The new file and the number are the same for the same file and places, whatever else; which of several mappings is given is free.
+ * The new file and the number are fixed by the file and the places: which rows stay, and in which order, is in docs/SPECIFICATION.md, Reduction.
+ * Which of several mappings is given is free.
  * 10 stands for a mapping buffer of under SPERNEVAN_MAPPING words too.
  */
 uint8_t spernevan_reduce(const uint8_t *file, size_t file_length, size_t source, size_t target, uint8_t *out, size_t out_length, size_t *length,

@@ -452,7 +452,7 @@ class Record:
         return query
 
     def reduce(self, source: Asked, target: int) -> Reduction:
-        """Puts the short form of the source place into the vacant target place: the shortest under the functional dependencies."""
+        """Puts the short form of the source place into the vacant target place: the shortest under the functional dependencies. The reduction has the new record."""
         if isinstance(source, (str, Query)):
             short = self.shorten(source)
             return Reduction(self.put(target, short.result, short.record.names.variables.get(1)), short.result, short.replaced, short.mapping)
@@ -478,7 +478,7 @@ class Record:
         return record
 
     def shorten(self, place: Asked) -> Reduction:
-        """The reduction of a place in a copy of the record from which every other place is dropped."""
+        """The short form of a place or a rule, with its mapping and count, made in a copy of the record; this record stays."""
         if isinstance(place, (str, Query)):
             record, _ = self.placed(place)
             return record.reduce(0, 1)
