@@ -244,15 +244,22 @@ fn settle(links: &[u16; 13], table: &[u32; 4056], rows: usize, state: &mut State
     }
 }
 
-// The state in which all rows are compared with each other, as in `settle`.
-pub fn settled(links: &[u16; 13], table: &[u32; 4056], rows: usize, state: State) -> State
+// The state in which all rows are compared with each other, as in `settle`, where each may have lost the candidates `gone` since it was: all ones where it
+// never was.
+pub fn settled(
+    links: &[u16; 13],
+    table: &[u32; 4056],
+    rows: usize,
+    state: State,
+    gone: u32,
+) -> State
     requires { rows ≤ 13 }
     ensures { Settles rows table.now state result }
 {
     let mut next = state;
     let mut lost = Lost {
         rows: !(65535 << rows),
-        candidates: [u32::MAX; 13],
+        candidates: [gone; 13],
     };
     settle(links, table, rows, &mut next, &mut lost);
     next

@@ -30,8 +30,8 @@ fn keeps_pace(pairs: &[u32; 4056], size: usize, rest: u32, step: &[u8; 13], q: u
         || (mask >> f.min(23)) % 2 == 1)
 }
 
-// Where the rows that are left go if row i goes to row d: each stays where it can, or goes to the first row that it can go to. None where one can go
-// nowhere, or one that moves does not go together with the others.
+// Where the rows that are left go if row i goes to row d: each stays where it can, and one that cannot goes to the first row that it can go to. None where
+// that one can go nowhere or does not go together with the others, and where more than one would have to go: then the search is as quick.
 fn moves(
     domain: &[u32; 13],
     pairs: &[u32; 4056],
@@ -43,18 +43,21 @@ fn moves(
     requires { (size ≤ 12) × (i < size) × (d < size) }
 {
     let mut step = [0u8; 13];
+    let mut moved = false;
     for (q, e) in step[..size].iter_mut().enumerate() {
         let open = domain[q] & pairs[(i * 24 + d) * 13 + q];
-        if (rest >> q) % 2 == 1 {
-            if open == 0 {
-                return None;
-            }
-            *e = if (open >> q) % 2 == 1 {
-                q as u8
-            } else {
-                open.trailing_zeros() as u8
-            };
+        if (rest >> q) % 2 == 0 {
+            continue;
         }
+        if (open >> q) % 2 == 1 {
+            *e = q as u8;
+            continue;
+        }
+        if open == 0 || moved {
+            return None;
+        }
+        *e = open.trailing_zeros() as u8;
+        moved = true;
     }
     step[i] = d as u8;
     if (0..size).all(|q| keeps_pace(pairs, size, rest, &step, q)) {

@@ -65,7 +65,7 @@ fn folded(
     if guessed.is_some() {
         return guessed;
     }
-    solve_linked(domain, pairs, links, size + 1)
+    solve_linked(domain, pairs, links, size + 1, 1 << i)
 }
 
 // Whether row d is left and is not row i.

@@ -159,18 +159,19 @@ fn try_candidate(
 }
 
 // A solution, where there is one. Candidates from 24 on are passed over. Of the links nothing is asked: they say which rows are looked
-// at when one loses candidates.
+// at when one loses candidates. Nor is anything of `gone`: candidates that rows may have lost since they were compared, as in `settled`.
 pub fn solve_linked(
     domain: &[u32; 13],
     table: &[u32; 4056],
     links: &[u16; 13],
     rows: usize,
+    gone: u32,
 ) -> Option<[u8; 13]>
     requires { rows ≤ 13 }
     ensures found { IfSome result (λ chosen. Solution rows domain.now table.now (λ r. get_or chosen r 0)) }
     ensures none { IsNone result → (f : ℕ → ℕ) → Solution rows domain.now table.now f → ⊥ }
 {
-    let state = settled(links, table, rows, start(domain));
+    let state = settled(links, table, rows, start(domain), gone);
     place_row(domain, table, links, rows, state, 26 * rows + 1).ok()
 }
 
@@ -192,7 +193,7 @@ pub fn consistent(
     requires { rows ≤ 13 }
     ensures { SameSolutions rows domain.now result table.now }
 {
-    let state = settled(links, table, rows, start(domain));
+    let state = settled(links, table, rows, start(domain), u32::MAX);
     let mut all = *domain;
     for (r, mask) in all.iter_mut().enumerate() {
         *mask &= state.current[r];
@@ -207,5 +208,5 @@ pub fn solve(domain: &[u32; 13], table: &[u32; 4056], rows: usize) -> Option<[u8
     ensures none { IsNone result → (f : ℕ → ℕ) → Solution rows domain.now table.now f → ⊥ }
 {
     let links = all_links(domain, table, rows);
-    solve_linked(domain, table, &links, rows)
+    solve_linked(domain, table, &links, rows, u32::MAX)
 }
