@@ -338,6 +338,28 @@ static void compare_tests(uint32_t n) {
     }
 }
 
+// Testing that a column never varies, on a table of five columns; then the last row differs.
+static void compare_unvarying(uint32_t n) {
+    const int widths[] = {5};
+    const char *tests = "select 1 from (select min(e) low, max(e) high from R0) where low <> high";
+    for (int broken = 0; broken < 2; broken++) {
+        open_record((uint8_t[]){5}, 1);
+        add(0, 0, 4);
+        word_count = 0;
+        uint32_t *p = shuffled(n);
+        for (uint32_t i = 0; i < n; i++) row(0, 5, (uint32_t[]){p[i], p[i] % 7, p[i] % 11, p[i] % 13, 5 + (broken && i == n - 1)});
+        free(p);
+        int obeys;
+        size_t found;
+        double engine = engine_test(0, &obeys);
+        double plain = sqlite_all(widths, 1, 0, tests, 1, &found);
+        if ((found == 0) != obeys) fail("the verdicts differ");
+        double keyed = sqlite_all(widths, 1, 1, tests, 1, &found);
+        if ((found == 0) != obeys) fail("the verdicts differ");
+        line(broken ? "test, a column that never varies, but in the last row" : "test, a column that never varies", n, obeys, engine, plain, keyed);
+    }
+}
+
 // One table R0(a, b, c, d, e), 20 rows for each a: the product of 2 values of b, 2 of c and 5 of d; e is a's. In random order.
 static void products(uint32_t n) {
     word_count = 0;
@@ -440,6 +462,7 @@ static void beside_sqlite(int joins_only) {
         if (!joins_only) {
             compare_joins(n);
             compare_tests(n);
+            compare_unvarying(n);
         }
         compare_join_tests(n);
     }
