@@ -858,9 +858,9 @@ fn damaged_tail(r: &mut Random, record: &Record) -> Vec<u8> {
     let whole = ((1u16 << w) - 1) as u8;
     let sets = all[at].sets.len();
     let k = r.below(sets);
-    match r.below(9) {
+    match r.below(11) {
         0 => all[at].relation = *r.pick(&[record.widths.len() as u8, 8, 255, 0]),
-        1 => {
+        1 | 9 | 10 => {
             // An empty set; its columns may be in another one.
             let gone = std::mem::take(&mut all[at].sets[k]);
             if r.percent(70) {
