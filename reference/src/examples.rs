@@ -179,6 +179,26 @@ fn p11() {
 }
 
 #[test]
+fn v1_v2_v3() {
+    let apart = q("v0 v3", &[(R, "v0 v1"), (R, "v2 v3")]);
+    let v1 = reduced(&[R_B], apart.clone());
+    assert_eq!((v1.result, v1.count), (q("v0 v3", &[(R, "v0 v3")]), 1));
+    let v2 = reduced(&[], apart.clone());
+    assert_eq!((v2.result, v2.count), (apart, 0));
+    let v3 = reduced(&[R_B], q("", &[(R, "v0 3"), (R, "v1 4")]));
+    assert_eq!((v3.result, v3.count), (Query::never(0), 0));
+}
+
+#[test]
+fn v4_v5() {
+    let queries = [q("v0 v3", &[(R, "v0 v1"), (R, "v2 v3")]), q("v0 v1", &[(R, "v0 v1")])];
+    assert!(matches!(compare(&record(&[R_B], &queries), 0, 1), Ok(Verdict::Contained(_))));
+    assert!(matches!(compare(&record(&[], &queries), 0, 1), Ok(Verdict::NotContained(_))));
+    let of_none = |deps: &[_]| determined(&record(deps, &[]), S, 0).map(|(_, n)| n);
+    assert_eq!((of_none(&[]), of_none(&[A_TO_B]), of_none(&[A_TO_B, S_A])), (Ok(0), Ok(0), Ok(2)));
+}
+
+#[test]
 fn limits() {
     let rows = |n| q("", &vec![(R, "v0 v1"); n]);
     let one = |a: Entry| Query::new(vec![], vec![Row { relation: R, entries: vec![a, a] }]);
