@@ -690,7 +690,7 @@ fn held(m: EmptyMistake, record: &Record) -> Record {
     Record { dependencies, ..record.clone() }
 }
 
-/// Whether the rows of this relation, and with as many columns, are asked about.
+/// Whether a dependency is asked of the rows of this relation and width.
 fn asked_about(m: EmptyMistake, d: &Dependency, relation: u8, width: usize) -> bool {
     relation == d.relation || (m == OtherRelationsAgree && d.left == 0 && width > d.right as usize)
 }
@@ -712,7 +712,7 @@ fn wrong_addition(m: EmptyMistake, record: &Record, d: Dependency) -> Result<Rec
 }
 
 fn wrong_join_addition(m: EmptyMistake, record: &Record, join: &JoinDependency) -> Result<(), Refusal> {
-    // A set that is empty passes for any that adds no column.
+    // An empty set passes like one that adds no column.
     let filled = |&set: &u8| if m == EmptySetInJoin && set == 0 { *join.sets.iter().find(|&&set| set != 0).unwrap_or(&0) } else { set };
     record.add_join(&JoinDependency { relation: join.relation, sets: join.sets.iter().map(filled).collect() }).map(|_| ())
 }
