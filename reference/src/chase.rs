@@ -14,7 +14,7 @@ pub struct Chased {
     pub became: Mapping,
 }
 
-/// The first pair of entries that some dependency makes equal and that differ.
+/// The first pair of entries that some dependency makes equal and that differ. On an empty left set any two rows agree.
 fn find_step(dependencies: &[Dependency], rows: &[Row]) -> Option<(Entry, Entry)> {
     for d in dependencies {
         for i in 0..rows.len() {

@@ -1,8 +1,8 @@
-//! The columns that a left set determines.
+//! The columns that a set of columns determines.
 
 use crate::record::*;
 
-/// The determined set and its size.
+/// The determined set and its size. Of the empty set these are the columns that never vary.
 pub fn determined(record: &Record, relation: u8, left: u8) -> Result<(u8, u32), Refusal> {
     record.sound()?;
     if !set_is_sound(&record.widths, relation, left) {

@@ -1,4 +1,4 @@
-//! The examples of SPECIFICATION, Examples, and some that single out each rule of reduction and of join dependencies.
+//! The examples of SPECIFICATION, Examples, and some that single out each rule of reduction, of join dependencies and of empty left sets.
 
 use crate::chase::chase_with_joins;
 use crate::closure::determined;
@@ -172,9 +172,30 @@ fn p11() {
     let record = record(&[(S, 1, 1), (S, 2, 2)], &[]);
     assert_eq!(determined(&record, S, 1), Ok((7, 3)));
     assert_eq!(determined(&record, S, 4), Ok((4, 1)));
-    for (relation, left) in [(2, 1), (S, 0), (S, 8), (R, 4)] {
-        assert_eq!(determined(&record, relation, left), Err(4));
+    assert_eq!(determined(&record, S, 0), Ok((0, 0)));
+    for (relation, set) in [(2, 1), (2, 0), (S, 8), (R, 4)] {
+        assert_eq!(determined(&record, relation, set), Err(4));
     }
+}
+
+#[test]
+fn v1_v2_v3() {
+    let apart = q("v0 v3", &[(R, "v0 v1"), (R, "v2 v3")]);
+    let v1 = reduced(&[R_B], apart.clone());
+    assert_eq!((v1.result, v1.count), (q("v0 v3", &[(R, "v0 v3")]), 1));
+    let v2 = reduced(&[], apart.clone());
+    assert_eq!((v2.result, v2.count), (apart, 0));
+    let v3 = reduced(&[R_B], q("", &[(R, "v0 3"), (R, "v1 4")]));
+    assert_eq!((v3.result, v3.count), (Query::never(0), 0));
+}
+
+#[test]
+fn v4_v5() {
+    let queries = [q("v0 v3", &[(R, "v0 v1"), (R, "v2 v3")]), q("v0 v1", &[(R, "v0 v1")])];
+    assert!(matches!(compare(&record(&[R_B], &queries), 0, 1), Ok(Verdict::Contained(_))));
+    assert!(matches!(compare(&record(&[], &queries), 0, 1), Ok(Verdict::NotContained(_))));
+    let of_none = |deps: &[_]| determined(&record(deps, &[]), S, 0).map(|(_, n)| n);
+    assert_eq!((of_none(&[]), of_none(&[A_TO_B]), of_none(&[A_TO_B, S_A])), (Ok(0), Ok(0), Ok(2)));
 }
 
 #[test]
@@ -477,8 +498,9 @@ fn join_dependencies_in_a_file() {
     for tail in tails {
         assert_eq!(fault(&[&[0], tail].concat()), Some(15));
         assert_eq!(fault(&[&[1, 0, 1, 1], tail].concat()), Some(15));
+        assert_eq!(fault(&[&[1, 0, 0, 0], tail].concat()), Some(15));
         // A functional one that is wrong decides first; a query later.
-        assert_eq!(fault(&[&[1, 0, 0, 1], tail].concat()), Some(4));
+        assert_eq!(fault(&[&[1, 1, 0, 0], tail].concat()), Some(4));
         assert_eq!(fault(&[&[1, 0, 1, 2], tail].concat()), Some(4));
         assert_eq!(fault(&[&[33], tail].concat()), Some(4));
         assert_eq!(read(&file(&[&[0], tail].concat(), &[9])).err(), Some(15));
@@ -506,4 +528,133 @@ fn testing_join_dependencies() {
     let four = with_joins(&[], &[(S, &[1, 2, 4, 4])], &[]);
     assert_eq!(test(&four, &[1, 1, 1, 1, 1, 1, 1, 2, 1, 1, 2, 1]), Ok(Tested::BreaksJoin(0, vec![0, 2, 1, 1])));
     assert_eq!(test(&four, &[1, 1, 1]), Err(9));
+}
+
+// Dependencies with an empty left set: a or b never varies in R, a in S. Of the first all numbers are 0.
+const R_A: (u8, u8, u8) = (R, 0, 0);
+const R_B: (u8, u8, u8) = (R, 0, 1);
+const S_A: (u8, u8, u8) = (S, 0, 0);
+const B_TO_C: (u8, u8, u8) = (S, 2, 2);
+
+#[test]
+fn rows_that_an_empty_left_set_makes_one() {
+    let apart = q("v0 v1 v2", &[(R, "v0 v1"), (R, "v0 v2")]);
+    let one = reduced(&[R_B], apart.clone());
+    assert_eq!((one.result, one.count), (q("v0 v1 v1", &[(R, "v0 v1")]), 1));
+    for other in [R_A, S_A] {
+        assert_eq!(reduced(&[other], apart.clone()).result, apart);
+    }
+    // Nothing has to be equal before.
+    let apart = q("v0 v1 v2 v3", &[(R, "v0 v1"), (R, "v2 v3")]);
+    let one = reduced(&[R_B, R_A], apart.clone());
+    assert_eq!((one.result, one.count), (q("v0 v1 v0 v1", &[(R, "v0 v1")]), 2));
+    let two = reduced(&[R_B], apart);
+    assert_eq!((two.result, two.count), (q("v0 v1 v2 v1", &[(R, "v0 v1"), (R, "v2 v1")]), 1));
+    // A constant, and then what it determines: the later dependency comes first.
+    let all = reduced(&[A_TO_B, B_TO_C, S_A], q("v1 v2 v4 v5", &[(S, "v0 v1 v2"), (S, "7 v4 v5"), (S, "v6 v4 v8")]));
+    assert_eq!((all.result, all.count), (q("v1 v2 v1 v2", &[(S, "7 v1 v2")]), 5));
+}
+
+#[test]
+fn two_constants_in_a_column_that_never_varies_clash() {
+    let query = q("v0", &[(R, "v0 3"), (R, "v1 4"), (R, "v0 3")]);
+    let never = reduced(&[R_B], query.clone());
+    assert_eq!((never.result, never.count), (Query::never(1), 0));
+    assert_eq!(reduced(&[R_A], query.clone()).count, 1);
+    assert!(matches!(compare(&record(&[R_B], &[query, Query::never(1)]), 0, 1), Ok(Verdict::ContainedAsNever)));
+    // In another relation, or once alone, they stay.
+    let query = q("v0", &[(S, "v0 3 3"), (S, "v0 4 4"), (R, "v1 4")]);
+    assert_eq!(reduced(&[R_B], query.clone()).count, 0);
+    assert_eq!(reduced(&[(S, 0, 1)], query).result, Query::never(1));
+}
+
+#[test]
+fn comparison_by_an_empty_left_set() {
+    let two = q("v0 v1", &[(R, "v2 v0"), (R, "v3 v1")]);
+    let one = q("v0 v0", &[(R, "v1 v0")]);
+    let contained = |deps: &[_]| compare(&record(deps, &[two.clone(), one.clone()]), 0, 1);
+    assert!(matches!(contained(&[R_B]), Ok(Verdict::Contained(_))));
+    for deps in [&[][..], &[R_A], &[(R, 1, 1)], &[S_A, (S, 0, 1)]] {
+        assert!(matches!(contained(deps), Ok(Verdict::NotContained(_))));
+    }
+    // What is shown obeys the dependency that takes part.
+    match compare(&record(&[R_A], &[two.clone(), one.clone()]), 0, 1) {
+        Ok(Verdict::NotContained(shown)) => assert_eq!(shown, q("v0 v1", &[(R, "v2 v0"), (R, "v2 v1")])),
+        _ => panic!(),
+    }
+    // Fewer rows are added where a column never varies.
+    assert_eq!(joined(&[R_B], &[A_B], &[(R, "v0 v1"), (R, "v2 v3")]), Ok(rows(&[(R, "v0 v1"), (R, "v2 v1")])));
+}
+
+#[test]
+fn determined_columns_of_the_empty_set() {
+    assert_eq!(determined(&record(&[A_TO_B, B_TO_C], &[]), S, 0), Ok((0, 0)));
+    let chain = record(&[A_TO_B, S_A], &[]);
+    assert_eq!(determined(&chain, S, 0), Ok((3, 2)));
+    assert_eq!(determined(&chain, S, 4), Ok((7, 3)));
+    assert_eq!(determined(&chain, R, 0), Ok((0, 0)));
+    assert_eq!(determined(&record(&[R_A], &[]), R, 0), Ok((1, 1)));
+    assert_eq!(determined(&record(&[R_A], &[]), R, 2), Ok((3, 2)));
+    assert_eq!(determined(&record(&[], &[]), 8, 0), Err(4));
+    // Join dependencies are not read.
+    assert_eq!(determined(&with_joins(&[AB_TO_C, S_A], &[AB_AC], &[]), S, 0), Ok((1, 1)));
+    assert_eq!(determined(&Record::default(), 0, 0), Err(14));
+}
+
+#[test]
+fn testing_an_empty_left_set() {
+    let one = record(&[R_B], &[]);
+    for obeys in [&[][..], &[0, 1, 2], &[0, 1, 2, 0, 3, 2, 1, 1, 4, 5, 0, 1, 2], &[1, 1, 2, 3, 1, 1, 4, 5]] {
+        assert_eq!(test(&one, obeys), Ok(Tested::Obeys));
+    }
+    // The first row of the relation, and the first after it with another value; all rows count.
+    assert_eq!(test(&one, &[1, 7, 7, 7, 0, 1, 2, 0, 3, 2, 0, 4, 5, 0, 4, 2, 0, 4, 6]), Ok(Tested::Breaks(0, 1, 3)));
+    assert_eq!(test(&one, &[0, 1, 2, 0, 1, 2, 0, 1, 0]), Ok(Tested::Breaks(0, 0, 2)));
+    // By the dependencies before the rows, and before the join dependencies.
+    let three = with_joins(&[S_A, (R, 1, 1), R_B], &[A_B], &[]);
+    assert_eq!(test(&three, &[0, 1, 2, 0, 3, 4, 0, 3, 5]), Ok(Tested::Breaks(1, 1, 2)));
+    assert_eq!(test(&three, &[0, 1, 2, 0, 3, 4]), Ok(Tested::Breaks(2, 0, 1)));
+    assert_eq!(test(&three, &[0, 1, 2, 0, 3, 4, 1, 1, 1, 1, 1, 2, 1, 1]), Ok(Tested::Breaks(0, 2, 3)));
+    assert_eq!(test(&one, &[0, 1, 2, 0, 3]), Err(9));
+}
+
+#[test]
+fn a_dependency_of_zeros_is_in_use() {
+    let held = |deps: &[_]| record(deps, &[q("v0 v1", &[(R, "v0 2"), (R, "v1 2")])]);
+    for deps in [&[R_A][..], &[R_A, R_A], &[R_A, R_B], &[R_B, R_A], &[A_TO_B, R_A, AB_TO_C], &[R_A; 32]] {
+        let record = held(deps);
+        let file = bytes(&record);
+        let part = [&[deps.len() as u8][..], &deps.iter().flat_map(|d| [d.0, d.1, d.2]).collect::<Vec<u8>>()].concat();
+        assert_eq!(crate::file::parts(&file).unwrap()[1], part);
+        assert_eq!(read(&file), Ok(record.clone()));
+        assert_eq!(list(&file), "place 0 rows 2 kept 1 replaced 1\nhead v0 v0\nrow 0 v0 2\nmap v0=v0 v1=v0\n");
+        let due = if deps.len() == 32 { Some(13) } else { None };
+        assert_eq!(record.add(Dependency { relation: R, left: 0, right: 0 }).err(), due);
+        assert_eq!(record.add(Dependency { relation: R, left: 0, right: 2 }), Err(4));
+        assert_eq!(record.add(Dependency { relation: 2, left: 0, right: 0 }), Err(4));
+    }
+    assert_eq!(Record::default().add(Dependency { relation: 0, left: 0, right: 0 }), Err(14));
+    // Only the count says how many there are.
+    let fault = |part: &[u8]| read(&crate::file::join(&[vec![1, 2], part.to_vec()])).err();
+    assert_eq!(fault(&[1, 0, 0, 0]), None);
+    assert_eq!(fault(&[2, 0, 0, 0, 0, 0, 0]), None);
+    assert_eq!(fault(&[&[32][..], &[0; 96]].concat()), None);
+    assert_eq!(fault(&[1, 0, 0, 0, 1, 0, 2, 1, 2]), None);
+    for part in [&[1, 0, 0][..], &[2, 0, 0, 0], &[1, 1, 0, 0], &[1, 0, 0, 2], &[1, 8, 0, 0], &[2, 0, 0, 0, 0, 4, 0], &[&[33][..], &[0; 99]].concat()] {
+        assert_eq!(fault(part), Some(4));
+    }
+    assert_eq!(fault(&[0, 0, 0, 0]), Some(15));
+    assert_eq!(fault(&[1, 0, 0, 0, 0, 0, 0]), Some(15));
+}
+
+#[test]
+fn sets_of_join_dependencies_are_not_empty() {
+    let held = record(&[R_A, S_A], &[]);
+    for (relation, sets) in [(R, vec![3, 0]), (R, vec![0, 3]), (S, vec![3, 5, 0]), (S, vec![0, 0]), (S, vec![0, 7, 7, 7])] {
+        assert_eq!(held.add_join(&JoinDependency { relation, sets: sets.clone() }), Err(15));
+        let mut broken = held.clone();
+        broken.joins.push(JoinDependency { relation, sets });
+        assert_eq!(read(&bytes(&broken)), Err(15));
+        assert_eq!(determined(&broken, R, 0), Err(14));
+    }
 }

@@ -1,5 +1,6 @@
 //! Seeded records, queries and files: sound ones of many shapes, and damaged files.
 
+use crate::closure::determined;
 use crate::file::{bytes, join, joins_bytes, query_bytes, record_parts};
 use crate::random::Random;
 use crate::record::*;
@@ -31,11 +32,31 @@ pub fn dependency(r: &mut Random, widths: &[u8], left_most: usize) -> Dependency
     Dependency { relation, left, right: r.below(w) as u8 }
 }
 
+/// The dependency whose numbers are all 0.
+pub const ZEROS: Dependency = Dependency { relation: 0, left: 0, right: 0 };
+
+/// A dependency with an empty left set, often that of zeros.
+pub fn empty_left(r: &mut Random, widths: &[u8]) -> Dependency {
+    if r.percent(25) {
+        return ZEROS;
+    }
+    let relation = r.below(widths.len());
+    Dependency { relation: relation as u8, left: 0, right: r.below(widths[relation] as usize) as u8 }
+}
+
+/// Dependencies, now and then one of them twice. In half of the lists some have an empty left set, often the first or the last.
 pub fn dependencies(r: &mut Random, widths: &[u8], n: usize, left_most: usize) -> Vec<Dependency> {
     let mut all: Vec<Dependency> = vec![];
     for _ in 0..n {
         let d = if !all.is_empty() && r.percent(5) { *r.pick(&all) } else { dependency(r, widths, left_most) };
         all.push(d);
+    }
+    if n > 0 && r.percent(50) {
+        for _ in 0..r.between(1, 1 + n / 3) {
+            let any = r.below(n);
+            let at = *r.pick(&[0, n - 1, any, any]);
+            all[at] = empty_left(r, widths);
+        }
     }
     all
 }
@@ -182,7 +203,7 @@ pub fn unfold(r: &mut Random, query: &Query) -> Query {
     out
 }
 
-/// Adds copies of rows that agree on a dependency's left side and differ elsewhere: rows that
+/// Adds copies of rows that agree on a dependency's left side and differ elsewhere, or in the right column alone: rows that
 /// the chase brings together again, or that clash.
 pub fn split(r: &mut Random, query: &Query, dependencies: &[Dependency]) -> Query {
     let mut out = query.clone();
@@ -198,8 +219,9 @@ pub fn split(r: &mut Random, query: &Query, dependencies: &[Dependency]) -> Quer
         let mut copy = r.pick(&of_relation).clone();
         let mut fresh = unused(&out);
         r.shuffle(&mut fresh);
+        let agree = if d.left == 0 && r.percent(60) { !(1 << d.right) } else { d.left };
         for c in 0..copy.entries.len() {
-            if d.left >> c & 1 == 0 && r.percent(80) {
+            if agree >> c & 1 == 0 && r.percent(80) {
                 if r.percent(8) {
                     copy.entries[c] = Constant(r.below(4) as u32);
                 } else if let Some(v) = fresh.pop() {
@@ -300,18 +322,38 @@ fn scattered(r: &mut Random) -> (Vec<u8>, Query) {
     (widths, query)
 }
 
-/// Rows that share a left side while the dependencies stand in the unlucky order.
+/// Copies of a few rows, alike but for the variables that aren't in the head, in any order: rows of each could stay.
+fn copies(r: &mut Random, widths: &[u8]) -> Query {
+    let n = r.between(2, 4);
+    let p = Profile { rows: (n, n), variables: r.between(2, 4), constant_chance: 5, constants: 2, head: 1 };
+    let base = query(r, widths, &p);
+    let mut out = base.clone();
+    for k in 1..r.between(2, MAX_ROWS / n) {
+        let copy = substitute(&base, |e| match e {
+            Variable(v) if !base.head.contains(&e) => Variable(v + 4 * k as u8),
+            e => e,
+        });
+        out.rows.extend(copy.rows);
+    }
+    rearranged(r, &out)
+}
+
+/// Rows that share a left side, which may be empty, while the dependencies stand in the unlucky order.
 fn chain(r: &mut Random) -> (Vec<u8>, Vec<Dependency>, Query) {
     let w = r.between(2, 8);
     let mut deps: Vec<Dependency> =
         (1..w).map(|c| Dependency { relation: 0, left: 1 << (c - 1), right: c as u8 }).collect();
+    let from_nothing = r.percent(30);
+    if from_nothing {
+        deps.insert(0, ZEROS);
+    }
     match r.below(3) {
         0 => deps.reverse(),
         1 => r.shuffle(&mut deps),
         _ => {}
     }
     let n = r.between(2, 12);
-    let ends = if r.percent(70) { 1 } else { 2 };
+    let ends = if from_nothing { n } else if r.percent(70) { 1 } else { 2 };
     let mut rows = vec![];
     for k in 0..n {
         let mut entries: Vec<Entry> = (0..w).map(|c| Variable((k * 8 + c) as u8)).collect();
@@ -347,6 +389,30 @@ fn fill(r: &mut Random, record: &mut Record, most: usize, mut make: impl FnMut(&
         }
         let query = if r.percent(5) { Query::never(r.below(MAX_HEAD + 1) as u8) } else { make(r) };
         record.places[k] = Some(query);
+    }
+}
+
+/// Changes most queries in columns that never vary, so that the chase takes fewer of them to never or to a single row: constants become equal there, and in
+/// some queries fresh variables take the place of others.
+fn settle(r: &mut Random, record: &mut Record) {
+    let still: Vec<u8> = (0..record.widths.len()).map(|k| determined(record, k as u8, 0).expect("a sound record").0).collect();
+    for query in record.places.iter_mut().flatten() {
+        if still.iter().all(|&set| set == 0) || r.percent(25) {
+            continue;
+        }
+        let (apart, head, mut fresh) = (r.percent(60), query.head.clone(), unused(query));
+        r.shuffle(&mut fresh);
+        let mut constants: std::collections::BTreeMap<(u8, usize), Entry> = Default::default();
+        for row in &mut query.rows {
+            for c in columns(still[row.relation as usize]) {
+                let e = &mut row.entries[c];
+                match e {
+                    Constant(_) => *e = *constants.entry((row.relation, c)).or_insert(*e),
+                    Variable(_) if apart && !head.contains(e) => *e = fresh.pop().map_or(*e, Variable),
+                    Variable(_) => {}
+                }
+            }
+        }
     }
 }
 
@@ -414,6 +480,11 @@ fn keyed(r: &mut Random) -> (Vec<u8>, Vec<Dependency>, JoinDependency, Vec<Query
         let left = *r.pick(&sets);
         deps.push(Dependency { relation: 0, left, right: r.below(w) as u8 });
     }
+    if r.percent(25) {
+        let right = if r.percent(50) { 0 } else { r.below(w) as u8 };
+        deps.push(Dependency { relation: 0, left: 0, right });
+        r.shuffle(&mut deps);
+    }
     let mut queries = vec![];
     for _ in 0..r.between(1, 3) {
         let (keys, variables, constant_chance) = (r.between(1, 2), r.between(3, 20), *r.pick(&[0, 10, 40]));
@@ -474,6 +545,7 @@ pub fn record_with_joins(r: &mut Random) -> Record {
         out.joins.extend(more);
         r.shuffle(&mut out.joins);
     }
+    settle(r, &mut out);
     assert!(out.is_sound());
     out
 }
@@ -494,7 +566,7 @@ pub fn record(r: &mut Random) -> Record {
 /// A sound record without join dependencies.
 fn functional_record(r: &mut Random) -> Record {
     let mut out = Record::default();
-    match r.below(13) {
+    match r.below(14) {
         0 => {
             // Plain and small.
             out.widths = widths(r, (1, 3), (1, 4));
@@ -587,6 +659,13 @@ fn functional_record(r: &mut Random) -> Record {
             out.widths = w;
             out.places[r.below(8)] = Some(q);
         }
+        12 => {
+            out.widths = widths(r, (1, 2), (2, 3));
+            let n = r.below(2);
+            out.dependencies = dependencies(r, &out.widths, n, 1);
+            let w = out.widths.clone();
+            fill(r, &mut out, 3, |r| copies(r, &w));
+        }
         _ => {
             // The ends of the ranges, and records without queries.
             out.widths = widths(r, (1, 8), (1, 8));
@@ -607,6 +686,7 @@ fn functional_record(r: &mut Random) -> Record {
             }
         }
     }
+    settle(r, &mut out);
     assert!(out.is_sound());
     out
 }
@@ -650,25 +730,34 @@ fn damage_part(r: &mut Random, record: &Record, parts: &mut [Vec<u8>], k: usize)
         }
     } else if k == 1 {
         let n = record.dependencies.len();
-        match r.below(6) {
+        match r.below(8) {
             0 => parts[1][0] = *r.pick(&[33, 255, n as u8 + 1, (n as u8).wrapping_sub(1)]),
             1 => {
-                let d = [0, 1, 0];
-                parts[1] = std::iter::once(33).chain(d.iter().copied().cycle().take(99)).collect();
+                let (count, left) = (r.between(32, 33), r.below(2) as u8);
+                parts[1] = [&[count as u8][..], &[0, left, 0].repeat(count)].concat();
+            }
+            2 => {
+                // One of zeros more, counted or not.
+                parts[1][0] += r.percent(60) as u8;
+                parts[1].splice(1 + 3 * n..1 + 3 * n, [0, 0, 0]);
             }
             _ => {
                 if n == 0 {
-                    parts[1] = vec![1, 0, 1, 0];
+                    parts[1] = vec![1, 0, r.below(2) as u8, 0];
                 }
                 let at = 1 + 3 * r.below(n.max(1));
                 let relation = parts[1][at] as usize;
                 let w = record.widths[relation];
-                match r.below(5) {
-                    0 => parts[1][at] = *r.pick(&[record.widths.len() as u8, 8, 255]),
+                let (relation, right) = (*r.pick(&[record.widths.len() as u8, 8, 255]), *r.pick(&[w, 8, 255]));
+                match r.below(8) {
+                    0 => parts[1][at] = relation,
                     1 => parts[1][at + 1] = 0,
                     2 => parts[1][at + 1] = (1u16 << w) as u8,
                     3 => parts[1][at + 1] |= 128,
-                    _ => parts[1][at + 2] = *r.pick(&[w, 8, 255]),
+                    4 => parts[1][at + 2] = right,
+                    5 => parts[1][at..at + 2].copy_from_slice(&[relation, 0]),
+                    6 => parts[1][at + 1..at + 3].copy_from_slice(&[0, right]),
+                    _ => parts[1][at..at + 3].fill(0),
                 }
             }
         }
@@ -767,10 +856,17 @@ fn damaged_tail(r: &mut Random, record: &Record) -> Vec<u8> {
     let at = r.below(all.len());
     let w = record.widths[all[at].relation as usize];
     let whole = ((1u16 << w) - 1) as u8;
-    let k = r.below(all[at].sets.len());
-    match r.below(9) {
+    let sets = all[at].sets.len();
+    let k = r.below(sets);
+    match r.below(11) {
         0 => all[at].relation = *r.pick(&[record.widths.len() as u8, 8, 255, 0]),
-        1 => all[at].sets[k] = 0,
+        1 | 9 | 10 => {
+            // An empty set; its columns may be in another one.
+            let gone = std::mem::take(&mut all[at].sets[k]);
+            if r.percent(70) {
+                all[at].sets[(k + 1) % sets] |= gone;
+            }
+        }
         2 => all[at].sets[k] |= *r.pick(&[(1u16 << w) as u8, 128]),
         3 => {
             // A column that is in no set.
@@ -934,7 +1030,7 @@ pub fn damaged(r: &mut Random) -> Vec<u8> {
         _ => {
             // One to three broken parts: the first in file order decides.
             for _ in 0..*r.pick(&[1, 1, 2, 3]) {
-                let k = r.below(parts.len());
+                let k = if r.percent(15) { 1 } else { r.below(parts.len()) };
                 let fresh = record_parts(&record);
                 parts[k] = fresh[k].clone();
                 damage_part(r, &record, &mut parts, k);
@@ -959,6 +1055,14 @@ pub fn file(seed: u64, k: u64) -> Vec<u8> {
     bytes(&if r.percent(20) { with_long_constants(&mut r, &record) } else { record })
 }
 
+/// Whether the dependency of zeros is held alone, is the first of several, is the last of several.
+#[cfg(test)]
+pub fn stand_of_zeros(record: &Record) -> [bool; 3] {
+    let all = &record.dependencies;
+    let several = all.len() > 1;
+    [*all == [ZEROS], several && all[0] == ZEROS, several && all[all.len() - 1] == ZEROS]
+}
+
 #[cfg(test)]
 mod tests {
     use super::*;
@@ -971,6 +1075,8 @@ mod tests {
     fn files_are_varied_and_their_listings_right() {
         let mut refusals: BTreeMap<u8, usize> = BTreeMap::new();
         let mut damaged_but_sound = 0;
+        // Dependencies, those with an empty left set, records that have one, and the dependency of zeros alone, first or last.
+        let (mut dependencies, mut empty_left, mut records, mut zeros) = (0, 0, 0, [0; 3]);
         for k in 0..3000 {
             let file = file(1, k);
             assert_eq!(file, super::file(1, k));
@@ -979,6 +1085,13 @@ mod tests {
                     assert!(record.is_sound());
                     assert_eq!(bytes(&record), file);
                     damaged_but_sound += (k % 5 >= 3) as usize;
+                    let of_record = record.dependencies.iter().filter(|d| d.left == 0).count();
+                    dependencies += record.dependencies.len();
+                    empty_left += of_record;
+                    records += (of_record > 0) as usize;
+                    for (n, is) in zeros.iter_mut().zip(stand_of_zeros(&record)) {
+                        *n += is as usize;
+                    }
                 }
                 Err(n) => {
                     assert!(k % 5 >= 3);
@@ -991,5 +1104,8 @@ mod tests {
             assert!(refusals[&n] > 20, "{refusals:?}");
         }
         assert!(damaged_but_sound > 20);
+        assert!(empty_left * 20 > dependencies && empty_left * 6 < dependencies, "{empty_left} of {dependencies}");
+        assert!(records > 450 && records < 900, "{records}");
+        assert!(zeros.iter().all(|&n| n > 50), "{zeros:?}");
     }
 }

@@ -1,19 +1,20 @@
 //! Wrong engines, each with one mistake that is easily made. What is generated must show every one of them up: files, and for
-//! join dependencies comparisons and databases too.
+//! join dependencies comparisons and databases too, for empty left sets the inputs of each call that reads them.
 
-use crate::chase::chase;
+use crate::chase::{chase, survivor};
+use crate::closure::determined;
 use crate::comparison::{compare, Verdict};
-use crate::database::{first_broken, test, words, Fact, Tested};
-use crate::file::read;
-use crate::generate::{file, record_with_joins};
+use crate::database::{facts, first_broken, first_broken_join, test, words, Fact, Tested};
+use crate::file::{bytes, parts, read};
+use crate::generate::{file, record, record_with_joins, ZEROS};
 use crate::judge::judge;
-use crate::listing::{list, place_text};
+use crate::listing::{cut, list, place_text};
 use crate::mapping::{find, image};
 use crate::random::Random;
 use crate::record::*;
 use crate::record::Entry::{Constant, Variable};
 use crate::reduction::core;
-use crate::vectors::{any_facts, any_reduction, related_record};
+use crate::vectors::{any_addition, any_database, any_facts, any_join_addition, any_question, any_reduction, related_record};
 
 #[derive(Clone, Copy, PartialEq, Debug)]
 enum Mistake {
@@ -435,7 +436,7 @@ fn wrong_read(m: JoinMistake, file: &[u8]) -> Result<(), Refusal> {
     match read(file).map(|_| ()) {
         Err(n) if n < 4 => Err(n),
         right => {
-            let parts = crate::file::parts(file).expect("a directory");
+            let parts = parts(file).expect("a directory");
             match wrong_part_1(m, &parts[0][1..], parts[1]) {
                 Some(n) => Err(n),
                 // Whatever the other parts are, the answer is wrong already if part 1 decided.
@@ -597,9 +598,9 @@ fn wrong_test(m: JoinMistake, record: &Record, facts: &[Fact]) -> Tested {
     first.unwrap_or(Tested::Obeys)
 }
 
-fn each_is_shown_up(all: &[JoinMistake], wrong: impl Fn(JoinMistake) -> usize) {
-    assert_eq!(wrong(NoMistake), 0);
-    let found: Vec<(JoinMistake, usize)> = all.iter().map(|&m| (m, wrong(m))).collect();
+fn each_is_shown_up<M: Copy + std::fmt::Debug>(none: M, all: &[M], wrong: impl Fn(M) -> usize) {
+    assert_eq!(wrong(none), 0);
+    let found: Vec<(M, usize)> = all.iter().map(|&m| (m, wrong(m))).collect();
     println!("{found:?}");
     assert!(found.iter().all(|&(_, n)| n >= 3), "{found:?}");
 }
@@ -607,7 +608,7 @@ fn each_is_shown_up(all: &[JoinMistake], wrong: impl Fn(JoinMistake) -> usize) {
 #[test]
 fn generated_files_show_up_mistakes_with_joins() {
     let files: Vec<Vec<u8>> = (0..5000).map(|k| file(4, k)).collect();
-    each_is_shown_up(&OF_READING, |m| files.iter().filter(|f| wrong_read(m, f) != read(f).map(|_| ())).count());
+    each_is_shown_up(NoMistake, &OF_READING, |m| files.iter().filter(|f| wrong_read(m, f) != read(f).map(|_| ())).count());
 }
 
 #[test]
@@ -615,7 +616,7 @@ fn comparisons_show_up_mistakes_with_joins() {
     let mut r = Random::new(5);
     let all: Vec<(Record, u8, u8)> = (0..1500).map(|_| related_record(&mut r)).collect();
     let right: Vec<Compared> = all.iter().map(|(x, p, q)| right_compare(x, *p, *q)).collect();
-    each_is_shown_up(&OF_COMPARING, |m| all.iter().zip(&right).filter(|((x, p, q), due)| wrong_compare(m, x, *p, *q) != **due).count());
+    each_is_shown_up(NoMistake, &OF_COMPARING, |m| all.iter().zip(&right).filter(|((x, p, q), due)| wrong_compare(m, x, *p, *q) != **due).count());
 }
 
 #[test]
@@ -628,5 +629,237 @@ fn databases_show_up_mistakes_with_joins() {
             (record, facts)
         })
         .collect();
-    each_is_shown_up(&OF_TESTING, |m| all.iter().filter(|(x, facts)| Ok(wrong_test(m, x, facts)) != test(x, &words(facts))).count());
+    each_is_shown_up(NoMistake, &OF_TESTING, |m| all.iter().filter(|(x, facts)| Ok(wrong_test(m, x, facts)) != test(x, &words(facts))).count());
+}
+
+/// Mistakes with functional dependencies that have an empty left set, and with the one of them whose numbers are all 0.
+#[derive(Clone, Copy, PartialEq, Debug)]
+enum EmptyMistake {
+    NoneAtAll,
+    // Of what is refused
+    EmptyRefused,
+    ZerosRefused,
+    EmptyNotLookedAt,
+    EmptySetInJoin,
+    // Of what is in use
+    ZerosDropped,
+    LastZerosDropped,
+    CutAtZeros,
+    ZerosReplaced,
+    // Of agreement
+    NeverAgrees,
+    OtherRelationsAgree,
+    NothingDetermined,
+    WithTheRowBefore,
+}
+use EmptyMistake::*;
+
+const OF_ADDING: [EmptyMistake; 7] = [EmptyRefused, ZerosRefused, EmptyNotLookedAt, ZerosDropped, LastZerosDropped, CutAtZeros, ZerosReplaced];
+const OF_FILES: [EmptyMistake; 8] = [
+    EmptyRefused, ZerosRefused, EmptyNotLookedAt, ZerosDropped, LastZerosDropped, CutAtZeros, NeverAgrees, OtherRelationsAgree,
+];
+const OF_WRITING: [EmptyMistake; 3] = [ZerosDropped, LastZerosDropped, CutAtZeros];
+const OF_QUESTIONS: [EmptyMistake; 7] = [EmptyRefused, EmptyNotLookedAt, ZerosDropped, LastZerosDropped, CutAtZeros, NeverAgrees, NothingDetermined];
+const OF_THE_CHASE: [EmptyMistake; 5] = [ZerosDropped, LastZerosDropped, CutAtZeros, NeverAgrees, OtherRelationsAgree];
+const OF_DATABASES: [EmptyMistake; 6] = [ZerosDropped, LastZerosDropped, CutAtZeros, NeverAgrees, OtherRelationsAgree, WithTheRowBefore];
+
+fn accepted(m: EmptyMistake, widths: &[u8], d: Dependency) -> bool {
+    match m {
+        EmptyRefused if d.left == 0 => false,
+        ZerosRefused if d == ZEROS => false,
+        EmptyNotLookedAt if d.left == 0 => true,
+        _ => d.is_sound(widths),
+    }
+}
+
+/// Whether the k-th of these dependencies is held, or does something.
+fn in_use(m: EmptyMistake, all: &[Dependency], k: usize) -> bool {
+    match m {
+        ZerosDropped => all[k] != ZEROS,
+        LastZerosDropped => all[k..].iter().any(|d| *d != ZEROS),
+        CutAtZeros => !all[..=k].contains(&ZEROS),
+        NeverAgrees => all[k].left != 0,
+        _ => true,
+    }
+}
+
+/// The record with the dependencies that are in use.
+fn held(m: EmptyMistake, record: &Record) -> Record {
+    let all = &record.dependencies;
+    let dependencies = (0..all.len()).filter(|&k| in_use(m, all, k)).map(|k| all[k]).collect();
+    Record { dependencies, ..record.clone() }
+}
+
+/// Whether a dependency is asked of the rows of this relation and width.
+fn asked_about(m: EmptyMistake, d: &Dependency, relation: u8, width: usize) -> bool {
+    relation == d.relation || (m == OtherRelationsAgree && d.left == 0 && width > d.right as usize)
+}
+
+fn wrong_addition(m: EmptyMistake, record: &Record, d: Dependency) -> Result<Record, Refusal> {
+    record.sound()?;
+    if !accepted(m, &record.widths, d) {
+        return Err(4);
+    }
+    if record.dependencies.len() == 32 {
+        return Err(13);
+    }
+    let mut after = record.clone();
+    match after.dependencies.iter().position(|d| *d == ZEROS) {
+        Some(k) if m == ZerosReplaced => after.dependencies[k] = d,
+        _ => after.dependencies.push(d),
+    }
+    Ok(held(m, &after))
+}
+
+fn wrong_join_addition(m: EmptyMistake, record: &Record, join: &JoinDependency) -> Result<(), Refusal> {
+    // An empty set passes like one that adds no column.
+    let filled = |&set: &u8| if m == EmptySetInJoin && set == 0 { *join.sets.iter().find(|&&set| set != 0).unwrap_or(&0) } else { set };
+    record.add_join(&JoinDependency { relation: join.relation, sets: join.sets.iter().map(filled).collect() }).map(|_| ())
+}
+
+fn wrong_question(m: EmptyMistake, record: &Record, relation: u8, set: u8) -> Result<(u8, u32), Refusal> {
+    record.sound()?;
+    match m {
+        EmptyRefused if set == 0 => Err(4),
+        EmptyNotLookedAt if set == 0 && relation as usize >= record.widths.len() => Ok((0, 0)),
+        NothingDetermined if set == 0 => determined(record, relation, set).map(|_| (0, 0)),
+        _ => determined(&held(m, record), relation, set),
+    }
+}
+
+/// The query after the chase, and the count.
+fn wrong_empty_chase(m: EmptyMistake, record: &Record, source: &Query) -> (Query, usize) {
+    let used = held(m, record).dependencies;
+    if m != OtherRelationsAgree {
+        let chased = chase(&used, source);
+        return (chased.query, chased.count);
+    }
+    let (mut query, mut count) = (source.clone(), 0);
+    loop {
+        let step = used.iter().find_map(|d| {
+            let rows: Vec<&[Entry]> =
+                query.rows.iter().filter(|r| asked_about(m, d, r.relation, r.entries.len())).map(|r| &r.entries[..]).collect();
+            let pairs = (0..rows.len()).flat_map(|i| (i + 1..rows.len()).map(move |j| (i, j)));
+            let mut made_equal = pairs
+                .filter(|&(i, j)| d.left_columns().all(|c| rows[i][c] == rows[j][c]))
+                .map(|(i, j)| (rows[i][d.right as usize], rows[j][d.right as usize]));
+            made_equal.find(|(x, y)| x != y)
+        });
+        let Some((x, y)) = step else { return (query, count) };
+        let Some((stays, goes)) = survivor(x, y, &query.head) else { return (Query::never(source.head_length), count) };
+        query = crate::generate::substitute(&query, |e| if e == goes { stays } else { e });
+        count += 1;
+    }
+}
+
+/// The listing with the map of any mapping there is.
+fn wrong_file_list(m: EmptyMistake, file: &[u8]) -> String {
+    let file = cut(file);
+    let right = read(file);
+    if matches!(right, Err(1..=3)) {
+        return list(file);
+    }
+    let parts = parts(file).expect("a directory");
+    let (widths, part) = (&parts[0][1..], parts[1]);
+    let n = *part.first().unwrap_or(&255) as usize;
+    let all_there = n <= MAX_DEPENDENCIES && part.len() > 3 * n;
+    let passes = all_there && part[1..1 + 3 * n].chunks(3).all(|d| accepted(m, widths, Dependency { relation: d[0], left: d[1], right: d[2] }));
+    match right {
+        _ if !passes => "refused 4\n".into(),
+        // Whatever the other parts are, the answer is wrong already.
+        Err(4) => String::new(),
+        Err(n) => format!("refused {n}\n"),
+        Ok(record) => {
+            let mut text = String::new();
+            for (p, place) in record.places.iter().enumerate() {
+                let Some(source) = place else { continue };
+                let (chased, count) = wrong_empty_chase(m, &record, source);
+                let result = core(&chased);
+                let mapping = find(source, &result).unwrap_or([Constant(0); VARIABLES]);
+                text += &place_text(p, source, &result, count, (!result.is_never()).then_some(&mapping));
+            }
+            text
+        }
+    }
+}
+
+fn wrong_empty_test(m: EmptyMistake, record: &Record, facts: &[Fact]) -> Tested {
+    let broken = |d: &Dependency| {
+        let rows: Vec<usize> = (0..facts.len()).filter(|&i| asked_about(m, d, facts[i].relation, facts[i].values.len())).collect();
+        let value = |i: usize| facts[i].values[d.right as usize];
+        match m {
+            OtherRelationsAgree if d.left == 0 => rows.iter().find(|&&j| value(j) != value(rows[0])).map(|&j| (rows[0], j)),
+            WithTheRowBefore if d.left == 0 => rows.windows(2).find(|two| value(two[0]) != value(two[1])).map(|two| (two[0], two[1])),
+            _ => first_broken(&[*d], facts).map(|(_, i, j)| (i, j)),
+        }
+    };
+    let all = &record.dependencies;
+    let functional = (0..all.len()).filter(|&k| in_use(m, all, k)).find_map(|k| broken(&all[k]).map(|(i, j)| Tested::Breaks(k, i, j)));
+    let join = || first_broken_join(&record.joins, facts).map(|(k, choice)| Tested::BreaksJoin(k, choice.rows));
+    functional.or_else(join).unwrap_or(Tested::Obeys)
+}
+
+#[test]
+fn additions_show_up_mistakes_with_empty_left_sets() {
+    let mut r = Random::new(20);
+    let all: Vec<(Record, Dependency)> = (0..1000).map(|_| any_addition(&mut r)).collect();
+    each_is_shown_up(NoneAtAll, &OF_ADDING, |m| all.iter().filter(|(x, d)| wrong_addition(m, x, *d) != x.add(*d)).count());
+    let all: Vec<(Record, JoinDependency)> = (0..1000).map(|_| any_join_addition(&mut r)).collect();
+    each_is_shown_up(NoneAtAll, &[EmptySetInJoin], |m| all.iter().filter(|(x, j)| wrong_join_addition(m, x, j) != x.add_join(j).map(|_| ())).count());
+}
+
+#[test]
+fn generated_files_show_up_mistakes_with_empty_left_sets() {
+    let files: Vec<(Vec<u8>, String)> = (0..2000).map(|k| file(21, k)).map(|f| (f.clone(), list(&f))).collect();
+    let is_wrong = |f: &[u8], text: &str, right: &str| text != right && judge(f, text.as_bytes()).is_err();
+    each_is_shown_up(NoneAtAll, &OF_FILES, |m| files.iter().filter(|(f, right)| is_wrong(f, &wrong_file_list(m, f), right)).count());
+}
+
+#[test]
+fn writing_shows_up_mistakes_with_empty_left_sets() {
+    let mut r = Random::new(22);
+    let all: Vec<Record> = (0..500).map(|_| record(&mut r)).collect();
+    each_is_shown_up(NoneAtAll, &OF_WRITING, |m| all.iter().filter(|x| bytes(&held(m, x)) != bytes(x)).count());
+}
+
+#[test]
+fn questions_show_up_mistakes_with_empty_left_sets() {
+    let mut r = Random::new(23);
+    let all: Vec<(Record, u8, u8)> = (0..1000).map(|_| any_question(&mut r)).collect();
+    let wrong = |m, x: &(Record, u8, u8)| wrong_question(m, &x.0, x.1, x.2) != determined(&x.0, x.1, x.2);
+    each_is_shown_up(NoneAtAll, &OF_QUESTIONS, |m| all.iter().filter(|x| wrong(m, x)).count());
+}
+
+#[test]
+fn reductions_show_up_mistakes_with_empty_left_sets() {
+    let mut r = Random::new(24);
+    let all: Vec<(Record, u8)> = (0..1000).map(|_| any_reduction(&mut r)).map(|(x, source, _)| (x, source)).collect();
+    let wrong = |m, x: &Record, source: u8| {
+        let Ok([query]) = x.filled([source]) else { return false };
+        let (chased, count) = wrong_empty_chase(m, x, query);
+        let right = chase(&x.dependencies, query);
+        (core(&chased), count) != (core(&right.query), right.count)
+    };
+    each_is_shown_up(NoneAtAll, &OF_THE_CHASE, |m| all.iter().filter(|(x, source)| wrong(m, x, *source)).count());
+}
+
+#[test]
+fn comparisons_show_up_mistakes_with_empty_left_sets() {
+    let mut r = Random::new(25);
+    let all: Vec<(Record, u8, u8)> = (0..1500).map(|_| related_record(&mut r)).collect();
+    // The verdict alone.
+    let verdict = |compared: Compared| compared.map(|(n, _)| n);
+    let wrong = |m, (x, p, q): &(Record, u8, u8)| verdict(right_compare(&held(m, x), *p, *q)) != verdict(right_compare(x, *p, *q));
+    each_is_shown_up(NoneAtAll, &OF_THE_CHASE[..4], |m| all.iter().filter(|x| wrong(m, x)).count());
+}
+
+#[test]
+fn databases_show_up_mistakes_with_empty_left_sets() {
+    let mut r = Random::new(26);
+    let all: Vec<(Record, Vec<u32>)> = (0..1000).map(|_| any_database(&mut r)).collect();
+    let wrong = |m, x: &Record, words: &[u32]| match facts(&x.widths, words) {
+        Ok(facts) if x.is_sound() => Ok(wrong_empty_test(m, x, &facts)) != test(x, words),
+        _ => false,
+    };
+    each_is_shown_up(NoneAtAll, &OF_DATABASES, |m| all.iter().filter(|(x, words)| wrong(m, x, words)).count());
 }

@@ -116,7 +116,7 @@ impl Query {
     }
 }
 
-/// A functional dependency.
+/// A functional dependency. The left set may be empty: then all rows of the relation agree on the right column.
 #[derive(Clone, Copy, PartialEq, Eq, Debug)]
 pub struct Dependency {
     pub relation: u8,
@@ -134,7 +134,7 @@ impl Dependency {
     }
 }
 
-/// A join dependency: the relation is the join of its projections to the sets.
+/// A join dependency: the relation is the join of its projections to the sets, none of them empty.
 #[derive(Clone, PartialEq, Eq, Debug)]
 pub struct JoinDependency {
     pub relation: u8,
@@ -144,7 +144,7 @@ pub struct JoinDependency {
 impl JoinDependency {
     pub fn is_sound(&self, widths: &[u8]) -> bool {
         (2..=4).contains(&self.sets.len())
-            && self.sets.iter().all(|&set| set_is_sound(widths, self.relation, set))
+            && self.sets.iter().all(|&set| set != 0 && set_is_sound(widths, self.relation, set))
             && self.sets.iter().fold(0, |all, set| all | set).count_ones() == widths[self.relation as usize] as u32
     }
 }
@@ -154,11 +154,11 @@ pub fn columns(set: u8) -> impl Iterator<Item = usize> {
     (0..8).filter(move |c| set >> c & 1 == 1)
 }
 
-/// A held relation and a nonempty set of its columns.
+/// A held relation and a set of its columns, which may be empty.
 pub fn set_is_sound(widths: &[u8], relation: u8, set: u8) -> bool {
     match widths.get(relation as usize) {
         None => false,
-        Some(&w) => set != 0 && (set as u32) >> w == 0,
+        Some(&w) => (set as u32) >> w == 0,
     }
 }
 

@@ -138,6 +138,7 @@ pub fn related_record(r: &mut Random) -> (Record, u8, u8) {
             record.places[q as usize] = Some(Query::never(base.head_length));
             return (record, p, q);
         }
+        let empty_left: Vec<Dependency> = record.dependencies.iter().copied().filter(|d| d.left == 0).collect();
         let mut other = base.clone();
         for _ in 0..r.below(4) {
             if other.is_never() {
@@ -145,8 +146,9 @@ pub fn related_record(r: &mut Random) -> (Record, u8, u8) {
             }
             let all = other.variables();
             let at = r.below(other.rows.len());
-            match r.below(10) {
+            match r.below(if empty_left.is_empty() { 10 } else { 13 }) {
                 0 => other = chase(&record.dependencies, &other).query,
+                10.. => other = chase(&empty_left, &other).query,
                 8 | 9 => other = some_chased(r, &record, &other),
                 1 => {
                     // Fewer rows: wider or the same.
@@ -180,6 +182,44 @@ pub fn related_record(r: &mut Random) -> (Record, u8, u8) {
         record.places[q as usize] = Some(other);
         return if r.percent(50) { (record, p, q) } else { (record, q, p) };
     }
+}
+
+/// A record and a dependency to add, which may break the rules. Many have an empty left set.
+pub fn any_addition(r: &mut Random) -> (Record, Dependency) {
+    let record = record(r);
+    let mut d = match record.widths.is_empty() {
+        true => Dependency { relation: 0, left: r.below(2) as u8, right: 0 },
+        false if r.percent(35) => generate::empty_left(r, &record.widths),
+        false => generate::dependency(r, &record.widths, 4),
+    };
+    match r.below(8) {
+        0 => d.relation = *r.pick(&[record.widths.len() as u8, 8, 255]),
+        1 | 2 => d.left = r.below(256) as u8,
+        3 => d.right = r.below(9) as u8,
+        _ => {}
+    }
+    (record, d)
+}
+
+/// A record, and a relation and a set to ask about, which may break the rules. Many sets are empty, of these many of a relation that has a dependency with
+/// an empty left set.
+pub fn any_question(r: &mut Random) -> (Record, u8, u8) {
+    let record = record(r);
+    let mut relation = r.below(record.widths.len().max(1)) as u8;
+    let w = record.widths.get(relation as usize).copied().unwrap_or(1);
+    let set = match r.below(8) {
+        0 => r.below(256) as u8,
+        1 | 2 => {
+            if let Some(d) = record.dependencies.iter().find(|d| d.left == 0) {
+                relation = d.relation;
+            }
+            0
+        }
+        3 | 4 => r.between(1, (1 << w) - 1) as u8,
+        _ => 1 << r.below(w as usize),
+    };
+    let unknown = *r.pick(&[record.widths.len() as u8, 8, 255]);
+    (record, if r.percent(12) { unknown } else { relation }, set)
 }
 
 /// A query that may break the rules: out of range, too long, loose.
@@ -229,7 +269,7 @@ fn any_query(r: &mut Random, widths: &[u8]) -> Query {
     q
 }
 
-/// Facts over few values; some obey all dependencies, some come from the rows of a query.
+/// Facts over few values; some obey all functional dependencies, but for a value that is changed at the end, some come from the rows of a query.
 pub fn any_facts(r: &mut Random, record: &Record, query: Option<&Query>) -> Vec<Fact> {
     let values: Vec<u32> = match r.below(4) {
         0 => vec![0, 1],
@@ -239,7 +279,11 @@ pub fn any_facts(r: &mut Random, record: &Record, query: Option<&Query>) -> Vec<
     };
     let mut all: Vec<Fact> = vec![];
     let obey = r.percent(60);
-    let add = |all: &mut Vec<Fact>, fact: Fact| {
+    let still: Vec<u8> = (0..record.widths.len()).map(|k| determined(record, k as u8, 0).map_or(0, |(set, _)| set)).collect();
+    let add = |all: &mut Vec<Fact>, mut fact: Fact| {
+        if let Some(first) = all.iter().find(|f| obey && f.relation == fact.relation) {
+            columns(still[fact.relation as usize]).for_each(|c| fact.values[c] = first.values[c]);
+        }
         all.push(fact);
         if obey && first_broken(&record.dependencies, all).is_some() {
             all.pop();
@@ -256,7 +300,10 @@ pub fn any_facts(r: &mut Random, record: &Record, query: Option<&Query>) -> Vec<
             add(&mut all, Fact { relation: row.relation, values: values.collect() });
         }
     }
-    for _ in 0..r.below(12) {
+    for _ in 0..if r.percent(10) { 60 } else { r.below(12) } {
+        if all.len() == 50 {
+            break;
+        }
         let relation = r.below(record.widths.len()) as u8;
         let values = (0..record.widths[relation as usize]).map(|_| *r.pick(&values)).collect();
         add(&mut all, Fact { relation, values });
@@ -268,6 +315,11 @@ pub fn any_facts(r: &mut Random, record: &Record, query: Option<&Query>) -> Vec<
             let gone = r.pick(&all).clone();
             all.retain(|f| *f != gone);
         }
+    }
+    if obey && !all.is_empty() && r.percent(15) {
+        let (at, value) = (r.below(all.len()), *r.pick(&values));
+        let c = r.below(all[at].values.len());
+        all[at].values[c] = value;
     }
     for _ in 0..*r.pick(&[0, 0, 0, 1, 3]) {
         if !all.is_empty() {
@@ -302,6 +354,27 @@ fn any_words(r: &mut Random, record: &Record, query: Option<&Query>) -> Vec<u32>
     words
 }
 
+/// A record and a join dependency to add, which may break the rules. Some records hold as many as they may.
+pub fn any_join_addition(r: &mut Random) -> (Record, JoinDependency) {
+    let mut record = record(r);
+    let join = any_join(r, &record.widths);
+    if !record.widths.is_empty() && r.percent(25) {
+        while record.joins.len() < MAX_JOINS {
+            let more = generate::joins(r, &record.widths, 1);
+            record.joins.extend(more);
+        }
+    }
+    (record, join)
+}
+
+/// A record and a database to test it on.
+pub fn any_database(r: &mut Random) -> (Record, Vec<u32>) {
+    let record = if r.percent(50) { generate::record_with_joins(r) } else { record(r) };
+    let query = record.places.iter().flatten().next().cloned();
+    let words = any_words(r, &record, query.as_ref());
+    (record, words)
+}
+
 /// A join dependency that may break the rules.
 fn any_join(r: &mut Random, widths: &[u8]) -> JoinDependency {
     if widths.is_empty() {
@@ -309,10 +382,17 @@ fn any_join(r: &mut Random, widths: &[u8]) -> JoinDependency {
     }
     let mut join = generate::joins(r, widths, 1).remove(0);
     let w = widths[join.relation as usize];
-    let k = r.below(join.sets.len());
+    let sets = join.sets.len();
+    let k = r.below(sets);
     match r.below(12) {
         0 => join.relation = *r.pick(&[widths.len() as u8, 8, 255]),
-        1 => join.sets[k] = 0,
+        1 => {
+            // An empty set; its columns may be in another one.
+            let gone = std::mem::take(&mut join.sets[k]);
+            if r.percent(70) {
+                join.sets[(k + 1) % sets] |= gone;
+            }
+        }
         2 => join.sets[k] = r.below(256) as u8,
         3 => join.sets = vec![((1u16 << w) - 1) as u8; *r.pick(&[0, 1, 2, 4, 5, 9])],
         4 => {
@@ -377,18 +457,7 @@ fn line(r: &mut Random, call: usize) -> Line {
             out.answer(Record::open(&widths), |out, after| out.record(&after));
         }
         3 => {
-            let record = record(r);
-            let mut d = match record.widths.is_empty() {
-                true => Dependency { relation: 0, left: 1, right: 0 },
-                false => generate::dependency(r, &record.widths, 4),
-            };
-            match r.below(8) {
-                0 => d.relation = *r.pick(&[record.widths.len() as u8, 8, 255]),
-                1 => d.left = 0,
-                2 => d.left = r.below(256) as u8,
-                3 => d.right = r.below(9) as u8,
-                _ => {}
-            }
+            let (record, d) = any_addition(r);
             out.record(&record);
             [d.relation, d.left, d.right].into_iter().for_each(|n| out.number(n));
             out.answer(record.add(d), |out, after| out.record(&after));
@@ -448,28 +517,17 @@ fn line(r: &mut Random, call: usize) -> Line {
             out.answer(check(&record, p, q, &mapping), |out, yes| out.number(yes as u8));
         }
         9 => {
-            let record = record(r);
-            let mut relation = r.below(record.widths.len().max(1)) as u8;
-            let w = record.widths.get(relation as usize).copied().unwrap_or(1);
-            let mut left = r.between(1, (1 << w) - 1) as u8;
-            match r.below(8) {
-                0 => relation = *r.pick(&[record.widths.len() as u8, 8, 255]),
-                1 => left = r.below(256) as u8,
-                2 => left = 0,
-                _ => left = if r.percent(50) { left } else { 1 << r.below(w as usize) },
-            }
+            let (record, relation, set) = any_question(r);
             out.record(&record);
             out.number(relation);
-            out.number(left);
-            out.answer(determined(&record, relation, left), |out, (set, n)| {
+            out.number(set);
+            out.answer(determined(&record, relation, set), |out, (set, n)| {
                 out.number(set);
                 out.number(n);
             });
         }
         10 => {
-            let record = if r.percent(50) { generate::record_with_joins(r) } else { record(r) };
-            let query = record.places.iter().flatten().next().cloned();
-            let words = any_words(r, &record, query.as_ref());
+            let (record, words) = any_database(r);
             out.record(&record);
             out.list(&words);
             out.answer(test(&record, &words), |out, tested| {
@@ -519,14 +577,7 @@ fn line(r: &mut Random, call: usize) -> Line {
             });
         }
         _ => {
-            let mut record = record(r);
-            let join = any_join(r, &record.widths);
-            if !record.widths.is_empty() && r.percent(25) {
-                while record.joins.len() < MAX_JOINS {
-                    let more = generate::joins(r, &record.widths, 1);
-                    record.joins.extend(more);
-                }
-            }
+            let (record, join) = any_join_addition(r);
             out.record(&record);
             out.number(join.relation);
             out.list(&join.sets);
@@ -605,6 +656,31 @@ mod tests {
         }
         for verdict in [(7, 0), (7, 1), (7, 2), (8, 0), (8, 1), (10, 0), (10, 1), (10, 2)] {
             assert!(verdicts.get(&verdict).copied().unwrap_or(0) > 10, "{verdicts:?}");
+        }
+    }
+
+    #[test]
+    fn additions_meet_empty_left_sets() {
+        let mut r = Random::new(6);
+        // Before and after an addition: the dependency of zeros alone, first and last. By their refusal: what has an empty left set.
+        let (mut before, mut after, mut refusals) = ([0; 3], [0; 3], BTreeMap::new());
+        for _ in 0..1000 {
+            let (record, d) = any_addition(&mut r);
+            let added = record.add(d);
+            if d.left == 0 {
+                let unknown = d.relation as usize >= record.widths.len();
+                *refusals.entry((added.as_ref().err().copied(), unknown)).or_insert(0) += 1;
+            }
+            let Ok(added) = added else { continue };
+            for (all, record) in [(&mut before, &record), (&mut after, &added)] {
+                for (n, is) in all.iter_mut().zip(generate::stand_of_zeros(record)) {
+                    *n += is as usize;
+                }
+            }
+        }
+        assert!(before.iter().chain(&after).all(|&n| n > 10), "{before:?} {after:?}");
+        for kind in [(None, false), (Some(DEPENDENCIES), true), (Some(DEPENDENCIES), false), (Some(BROKEN), true)] {
+            assert!(refusals.get(&kind).copied().unwrap_or(0) > 5, "{refusals:?}");
         }
     }
 }
