@@ -7,7 +7,7 @@
  *   1  the bytes do not begin as a file does: fewer than 2, a count of parts that is not 2 to 10, or too few for the offset and length of each part
  *   2  the parts do not follow one another: the first right after the offsets and lengths, the last up to the end of the file
  *   3  there are not 1 to 8 relations with 1 to 8 columns each; in a file, also bytes of part 0 that are missing or left over
- *   4  a functional dependency, or a left set that is asked about, has no left column or names a relation or column that there is not;
+ *   4  a functional dependency, or a left set that is asked about, names a relation or column that there is not;
  *      in a file, also more than 32 functional dependencies, and bytes of part 1 that are missing for them
  *   5  a query breaks a limit, or bytes of its part are missing or left over; also a file whose last part is a vacant place, the single byte 255
  *   6  the head of a query has a variable that its rows do not have
@@ -94,7 +94,8 @@ uint8_t spernevan_open(const uint8_t *widths, size_t widths_length, uint8_t *out
 
 /*
  * Adds a functional dependency after those held.
- * Takes a file, a relation, a left set (bit c for column c) and a right column.
+ * Takes a file, a relation, a left set (bit c for column c) and a right column. With the left set 0 it says that the right column never varies:
+ * all rows of the relation have the same value there.
  * Returns 0 with the new file in `out` and its length in `*length`; or 1 to 6 or 15, then 4, 13, 10.
  */
 uint8_t spernevan_add(const uint8_t *file, size_t file_length, uint8_t relation, uint8_t left, uint8_t right,
@@ -124,8 +125,8 @@ uint8_t spernevan_drop(const uint8_t *file, size_t file_length, size_t place, ui
 
 /*
  * The columns of a relation that a left set determines by the functional dependencies.
- * Takes a file, a relation and a nonempty left set (bit c for column c).
- * Returns 0 with their set in `*columns` and their number in `*count`; or 1 to 6 or 15, then 4.
+ * Takes a file, a relation and a left set (bit c for column c). The left set 0 determines the columns that never vary, if there are any.
+ * Returns 0 with their set in `*columns` and their number in `*count`, which may be 0; or 1 to 6 or 15, then 4.
  */
 uint8_t spernevan_determined(const uint8_t *file, size_t file_length, uint8_t relation, uint8_t left, uint8_t *columns, uint8_t *count);
 

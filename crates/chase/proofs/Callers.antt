@@ -1,11 +1,11 @@
 -- What a caller of the chase has to show, from the rule for the record: good relations, dependencies and tableau. Assumes nothing.
 use mathlib.Core.Path.{◌≡◌, refl}
-use mathlib.Core.Bool.{true, not, ◌&&◌}
+use mathlib.Core.Bool.{true, ◌&&◌}
 use mathlib.Core.List.{List}
 use Prim.Native.Nat.{ℕ, ◌^◌, ◌≤◌, ◌<◌}
 use native.Mathlib.Omega.{arith}
 use borrow.Author.Tests.{leb-true, ltb-true, lt-ltb}
-use lib.Dec.{eqb, leb, ltb}
+use lib.Dec.{leb, ltb}
 use lib.ListN.{length, take, drop, get_or}
 use Rattle.query.specs.Types.{Tableau}
 use Rattle.query.specs.declared.Dependency.{Dependency}
@@ -45,7 +45,7 @@ good_right schema widths d good =
     d.right
     (get_or schema d.relation 0)
     (and_right
-    (ltb d.relation (length schema) && not (eqb d.left 0) && ltb d.left (2 ^ get_or schema d.relation 0))
+    (ltb d.relation (length schema) && ltb d.left (2 ^ get_or schema d.relation 0))
     (ltb d.right (get_or schema d.relation 0))
     good) in
     lt-ltb d.right 8 (omega (arith, width-le schema widths d.relation))

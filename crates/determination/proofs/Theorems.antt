@@ -17,3 +17,9 @@ determined-unique widths ds relation left fits held cs up exact =
     let same = determined-exactly widths ds relation left fits held in
     ascending-unique cs (determined ds relation (get_or widths relation 0) left) up (determined-ascending ds relation (get_or widths relation 0) left)
     (λ c at. (same c).1 ((exact c).0 at)) (λ c at. (exact c).1 ((same c).0 at))
+
+pub determined-by-none : columns.DeterminedByNone
+determined-by-none widths ds relation c = (
+  λ determines D legal r s at at' is is'. determines D legal r s at at' is is' (λ k there. elim there [ ]),
+  λ same D legal r s at at' is is' agree. same D legal r s at at' is is',
+)

@@ -1,8 +1,9 @@
 -- What is proved of determined columns. Each statement is proved in `proofs/Theorems`.
-use Rattle.std.specs.Prelude.{◌≡◌, ◌↔◌, List, ℕ, ◌<◌, length, get_or}
+use Rattle.std.specs.Prelude.{◌≡◌, ◌↔◌, List, [], ℕ, ◌<◌, length, get_or}
 use Rattle.theory.specs.Query.{◌∈◌}
-use Rattle.theory.specs.Database.{Dependency}
-use Rattle.determination.specs.Determined.{Determined, FitsColumns, Increasing, determined}
+use Rattle.theory.specs.Database.{Database, Dependency, Legal}
+use Rattle.theory.specs.AnswerTheorems.{NeverVaries}
+use Rattle.determination.specs.Determined.{Determines, Determined, FitsColumns, Increasing, determined}
 
 -- `determined` lists just the determined columns
 abbrev pub DeterminedExactly : Type 0
@@ -22,3 +23,9 @@ DeterminedUnique =
     → ((d : Dependency) → d ∈ ds → FitsColumns widths d) → relation < length widths
     → (cs : List ℕ) → Increasing cs → ((c : ℕ) → (c ∈ cs) ↔ Determined widths ds relation left c)
     → cs ≡ determined ds relation (get_or widths relation 0) left
+
+-- The empty set determines the columns that never vary, in any legal database
+abbrev pub DeterminedByNone : Type 0
+DeterminedByNone =
+    (widths : List ℕ) (ds : List Dependency) (relation c : ℕ)
+    → Determines widths ds relation [] c ↔ ((D : Database) → Legal widths ds D → NeverVaries relation c D)

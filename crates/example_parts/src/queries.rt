@@ -23,6 +23,28 @@ pub fn pair(arity: u8, shown: Entry, size: u8, b: Entry, c: Entry) -> Query {
     q
 }
 
+// That many rows R(v0, v1), R(v2, v3) and so on, at most 5, with an empty head.
+pub fn rows(size: u8) -> Query {
+    let mut q = Query::never(0);
+    q.size = size;
+    // Kept as it is: i names a row's cells and its variables.
+    for i in 0..size.min(5) {
+        let at = 8 * usize::from(i);
+        q.cells[at].entry = Entry::Variable(2 * i);
+        q.cells[at + 1].entry = Entry::Variable(2 * i + 1);
+    }
+    q
+}
+
+// The same with head v0, v.
+pub fn shown(size: u8, v: u8) -> Query {
+    let mut q = rows(size);
+    q.arity = 2;
+    q.head[0].entry = Entry::Variable(0);
+    q.head[1].entry = Entry::Variable(v);
+    q
+}
+
 // The record with a query put at a place. Each is put where it is accepted.
 pub fn put(r: Record, place: usize, q: Query) -> Record {
     r.put(place, q).record
@@ -42,6 +64,16 @@ pub fn dependent(r: Record) -> Record {
     r.add_dependency(Dependency {
         relation: 0,
         left: 1,
+        right: 1,
+    })
+    .record
+}
+
+// The record in which column 1 of relation 0 never varies.
+pub fn unvarying(r: Record) -> Record {
+    r.add_dependency(Dependency {
+        relation: 0,
+        left: 0,
         right: 1,
     })
     .record

@@ -2,9 +2,9 @@
 // A line is the two places and the answer: the refusal's number; contained, with the images of v0, v1, v2 where there is a mapping; or not contained, with the
 // number of rows and the first row of the first query, chased; of a check yes or no. Relation 0 is R with columns a, b.
 use comparison::Verdict;
-use example_parts::queries::{pair, put_all};
+use example_parts::queries::{pair, put_all, rows, shown};
 use example_parts::{queries, show};
-use query::{Cell, Entry, Query};
+use query::{Cell, Entry};
 use record::Record;
 use refusals::Refusal;
 use std::io;
@@ -42,28 +42,6 @@ fn filled(r: Record) -> Record {
     put_all(r, &queries)
 }
 
-// That many rows R(v0, v1), R(v2, v3) and so on, at most 5, with an empty head.
-fn rows(size: u8) -> Query {
-    let mut q = Query::never(0);
-    q.size = size;
-    // Kept as it is: i names a row's cells and its variables.
-    for i in 0..size.min(5) {
-        let at = 8 * usize::from(i);
-        q.cells[at].entry = Entry::Variable(2 * i);
-        q.cells[at + 1].entry = Entry::Variable(2 * i + 1);
-    }
-    q
-}
-
-// The same with head v0, v.
-fn shown(size: u8, v: u8) -> Query {
-    let mut q = rows(size);
-    q.arity = 2;
-    q.head[0].entry = Entry::Variable(0);
-    q.head[1].entry = Entry::Variable(v);
-    q
-}
-
 // R(v0, v1), R(v2, v3) with head v0, v3 at 0, R(v0, v1) with head v0, v1 at 1; 4 such rows at 2, 5 at 3, never at 4, with an empty head.
 fn crossed(r: Record) -> Record {
     let queries = [shown(2, 3), shown(1, 1), rows(4), rows(5), rows(0)];
@@ -76,7 +54,7 @@ fn compare_two(rt: &impl Print, r: Record, p: usize, q: usize) -> io::Result<()>
     comparison(rt, comparison::compare(r, p, q))
 }
 
-// Each pair in which the join dependency tells: a row that it asks for, 16 rows from 4, and a 25th row.
+// Each pair in which the join dependency tells: a row that it asks for, 16 rows from 4, and a 25th row. A column that never varies tells in the first two.
 fn compare_joined(rt: &impl Print, r: Record) -> io::Result<()> {
     for (p, q) in [(0, 1), (1, 0), (2, 4), (3, 4), (4, 3)] {
         compare_two(rt, r, p, q)?;
@@ -138,5 +116,6 @@ pub fn all(rt: &impl Print) -> io::Result<()> {
     compare_with(rt, queries::spoilt(r), 8)?;
     let pairs = crossed(opened);
     compare_joined(rt, pairs)?;
-    compare_joined(rt, queries::joined(pairs))
+    compare_joined(rt, queries::joined(pairs))?;
+    compare_joined(rt, queries::unvarying(pairs))
 }

@@ -78,6 +78,11 @@ pub fn all(rt: &impl Print) -> io::Result<()> {
     test(rt, r, &broken)?;
     test(rt, r, &cut)?;
     test(rt, queries::spoilt(r), &cut)?;
+    let unvarying = queries::unvarying(empty);
+    write(rt, unvarying)?;
+    test(rt, unvarying, &good)?;
+    test(rt, unvarying, &broken)?;
+    test(rt, unvarying, &[])?;
     let cross = queries::joined(empty);
     let missing = [0, 1, 5, 0, 3, 6];
     write(rt, cross)?;

@@ -72,5 +72,8 @@ pub fn all(rt: &impl Print) -> io::Result<()> {
     let r = filled(record_calls::open(&[2]).record);
     reduce_all(rt, r)?;
     reduce_all(rt, queries::dependent(r))?;
-    reduce(rt, queries::spoilt(r), 8, 8)
+    reduce(rt, queries::spoilt(r), 8, 8)?;
+    let crossed = put_all(record_calls::open(&[2]).record, &[queries::shown(2, 3)]);
+    reduce(rt, crossed, 0, 1)?;
+    reduce(rt, queries::unvarying(crossed), 0, 1)
 }

@@ -6,7 +6,7 @@ use Rattle.lists.specs.Numbers.{numbers_where}
 use Rattle.theory.specs.Query.{row_entries, variables_of, member}
 use Rattle.theory.specs.Query.{subset}
 use Rattle.query.specs.View.{rows_of, columns_from}
-use Rattle.query.specs.Rule.{good_relations, good_set, good_dependency, good_dependencies, good_join, good_joins, good_up_to, good_rows, head_safe}
+use Rattle.query.specs.Rule.{good_relations, good_set, good_join_set, good_dependency, good_dependencies, good_join, good_joins, good_up_to, good_rows, head_safe}
 use Rattle.record.specs.Rule.{good_record}
 use Rattle.format.specs.Bytes.{bytes_of}
 use Rattle.format.specs.Format.{byte, sequence, padded, via}
@@ -15,7 +15,7 @@ use Rattle.format.specs.File.{table_of, assemble, put_joins, put_place, up_to_fi
 use Rattle.file.specs.Longest.{LongestGood, LongestPart, LongestFile}
 
 pub longest-good : LongestGood
-unfolding good_record good_relations good_dependencies good_dependency good_set good_joins good_join columns_from numbers_where flatten good_up_to good_rows head_safe every rows_of row_entries variables_of member subset
+unfolding good_record good_relations good_dependencies good_dependency good_set good_join_set good_joins good_join columns_from numbers_where flatten good_up_to good_rows head_safe every rows_of row_entries variables_of member subset
 longest-good = (refl, refl)
 
 pub longest-part : LongestPart

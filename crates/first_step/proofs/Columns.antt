@@ -23,7 +23,7 @@ use Rattle.first_step.specs.internal.Wide.{row_at, row_in}
 use Rattle.query.specs.internal.Code.{code_of}
 use Rattle.tableaux.specs.internal.Codes.{codes_of, same_on}
 use Rattle.tableaux.proofs.Columns.{columns-range}
-use Rattle.theory.specs.Query.{◌∈◌, Entry, constant, column, same_entry}
+use Rattle.theory.specs.Query.{◌∈◌, constant, column, same_entry}
 use Rattle.theory.specs.Chase.{agree, breaks}
 use Rattle.theory.proofs.Lists.{bool_cases}
 

@@ -16,7 +16,7 @@ use Rattle.query.specs.Types.{Query}
 use Rattle.query.specs.declared.JoinDependency.{JoinDependency}
 use Rattle.lists.specs.Tests.{between, every, is_zero}
 use Rattle.lists.specs.Over.{pad}
-use Rattle.query.specs.Rule.{blank_cell, blank_dependency, blank_join, good_dependency, good_set, good_join, good_entry, good_cell, no_cell, no_dependency, no_join}
+use Rattle.query.specs.Rule.{blank_cell, blank_dependency, blank_join, good_dependency, good_join_set, good_join, good_entry, good_cell, no_cell, no_dependency, no_join}
 use Rattle.query.specs.Rule.{shaped_join}
 use Rattle.query.proofs.Good.{good-join}
 use Rattle.query.proofs.Shape.{blank-number, blank-cell, blank-dependency, blank-join}
@@ -89,7 +89,7 @@ join-lawful schema =
           take_at (take j.count j.sets) rest j.count n in
           let back : pad 4 0 (take j.count j.sets) ≡ j.sets =
           pad-take 4 0 is_zero j.count blank-number good.most j.sets four
-          (used-blank j.count (good_set schema j.relation) is_zero j.sets good.sets) in
+          (used-blank j.count (good_join_set schema j.relation) is_zero j.sets good.sets) in
           let two : 2 + j.count ≡ suc (suc j.count) = omega arith in
           let left : drop (2 + j.count) (j.relation ∷ j.count ∷ take j.count j.sets ++ rest) ≡ rest =
           ap (λ (k : ℕ). drop k (j.relation ∷ j.count ∷ take j.count j.sets ++ rest)) two ∙ drop_at (take j.count j.sets) rest j.count n in

@@ -17,8 +17,8 @@ use Rattle.lists.proofs.Numbers.{where-of}
 use Rattle.theory.specs.Query.{◌∈◌}
 use Rattle.theory.proofs.Lists.{subset-true}
 use Rattle.query.specs.View.{columns_of, join_of}
-use Rattle.query.specs.Rule.{good_set, blank_join, good_join, good_joins, shaped_join}
-use Rattle.query.proofs.Good.{good-set, good-join}
+use Rattle.query.specs.Rule.{good_join_set, blank_join, good_join, good_joins, shaped_join}
+use Rattle.query.proofs.Good.{good-join-set, good-join}
 use Rattle.query.proofs.Stored.{columns-below}
 use Rattle.joins.specs.Join.{JoinFits}
 use Rattle.join_rule.specs.Fitting.{GoodJoinFits, GoodJoinsFit, GoodJoinWithin}
@@ -35,13 +35,13 @@ flatten-of (l ∷ lists) at =
 pub good-join-fits : GoodJoinFits
 good-join-fits schema j shaped good =
     let g = good-join schema j good in
-    let used = used-good j.count (good_set schema j.relation) is_zero j.sets g.sets in
+    let used = used-good j.count (good_join_set schema j.relation) is_zero j.sets g.sets in
     let long : length (take j.count j.sets) ≡ j.count =
     length-take-le j.count j.sets (omega (arith, eqb-true (length j.sets) 4 shaped, g.most)) in
     let mapped = length-map (take j.count j.sets) columns_of in
     record {
-      known = (good-set schema j.relation (get_or (take j.count j.sets) 0 0)
-          (every-get_or (good_set schema j.relation) (take j.count j.sets) 0 0 used (omega (arith, long, g.least)))).relation-known;
+      known = (good-join-set schema j.relation (get_or (take j.count j.sets) 0 0)
+          (every-get_or (good_join_set schema j.relation) (take j.count j.sets) 0 0 used (omega (arith, long, g.least)))).relation-known;
       some-set = λ none. let empty = ap length none in absurd (omega (arith, empty, mapped, long, g.least));
       covers = λ c less.
           flatten-of (join_of j).sets
@@ -61,8 +61,8 @@ good-joins-fit schema held joins shaped good j at =
 pub good-join-within : GoodJoinWithin
 good-join-within schema j good set at c there =
     let g = good-join schema j good in
-    let used = used-good j.count (good_set schema j.relation) is_zero j.sets g.sets in
+    let used = used-good j.count (good_join_set schema j.relation) is_zero j.sets g.sets in
     let from = Memᴰ.of_map columns_of (take j.count j.sets) at in
-    let narrow = (good-set schema j.relation from.0 (every-member (good_set schema j.relation) (take j.count j.sets) used from.1)).within in
+    let narrow = (good-join-set schema j.relation from.0 (every-member (good_join_set schema j.relation) (take j.count j.sets) used from.1)).within in
     let below = columns-below 0 8 from.0 (get_or schema j.relation 0) narrow (subst (λ l. c ∈ l) (sym from.2) there) in
     omega (arith, below)

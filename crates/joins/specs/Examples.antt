@@ -5,7 +5,7 @@ use Rattle.std.specs.Prelude.{◌≡◌, Bool, true, false, ◌&&◌, List, [], 
 use Rattle.std.specs.Bool.{beq}
 use Rattle.std.proofs.Math.Option.{Option, none, some}
 use Rattle.lists.specs.Tests.{every}
-use Rattle.theory.specs.Query.{Entry, constant, variable, Row, Query, ◌∈◌}
+use Rattle.theory.specs.Query.{Entry, Row, Query, ◌∈◌}
 use Rattle.theory.specs.Database.{Database, Dependency, JoinDependency}
 use Rattle.theory.specs.Containment.{Contained, Counterexample}
 use Rattle.minimization.specs.Examples.{schema, same_query, over_schema, v, k, R, S, B, query}
@@ -86,6 +86,10 @@ S·ab·bc·ca = record { relation = 1; sets = (0 ∷ 1 ∷ []) ∷ (1 ∷ 2 ∷ 
 -- a determines b in S
 abbrev S·a→b : Dependency
 S·a→b = record { relation = 1; left = 0 ∷ []; right = 1 }
+
+-- a never varies in S
+abbrev pub S·a : Dependency
+S·a = record { relation = 1; left = []; right = 0 }
 
 -- a and b determine c in S
 abbrev S·ab→c : Dependency
@@ -189,6 +193,9 @@ both =
     -- a clash that only the added row brings, and never, which stays
     ∷ chases_to (S·ab→c ∷ []) (S·ab·ac ∷ []) 24 (query (v 0 ∷ []) (S (v 0) (v 1) (k 3) ∷ S (v 0) (v 2) (k 4) ∷ [])) (chased (query (k 0 ∷ []) []))
     ∷ chases_to (S·ab→c ∷ []) (S·ab·ac ∷ R·a·b ∷ []) 24 (query (k 0 ∷ k 0 ∷ []) []) (chased (query (k 0 ∷ k 0 ∷ []) []))
+    -- a column that never varies makes the join a product of the other two
+    ∷ chases_to (S·a ∷ []) (S·ab·ac ∷ []) 24 (query [] (S (v 0) (v 1) (v 2) ∷ S (v 3) (v 4) (v 5) ∷ []))
+    (ends (S (v 0) (v 1) (v 2) ∷ S (v 0) (v 4) (v 5) ∷ S (v 0) (v 1) (v 5) ∷ S (v 0) (v 4) (v 2) ∷ []))
     -- a join dependency alone: two queries that it makes equivalent
     ∷ compares [] (S·ab·ac ∷ []) crossed straight true
     ∷ compares [] (S·ab·ac ∷ []) straight crossed true

@@ -17,8 +17,8 @@ use Rattle.lists.specs.Numbers.{numbers_where}
 use Rattle.lists.proofs.Tests.{every-get_or, every-weaken, every-join, used-good, used-blank, padded}
 use Rattle.query.specs.declared.JoinDependency.{JoinDependency}
 use Rattle.query.specs.View.{columns_from, columns_of}
-use Rattle.query.specs.Rule.{good_set, good_join}
-use Rattle.query.proofs.Good.{good-set}
+use Rattle.query.specs.Rule.{good_join_set, good_join}
+use Rattle.query.proofs.Good.{good-join-set}
 use Rattle.query.proofs.Shape.{blank-number}
 use Rattle.closure.proofs.Masks.{Same, same-columns, same-union, all-columns}
 
@@ -76,23 +76,23 @@ no-columns [] zero = refl
 no-columns [] (suc k) = no-columns [] k
 no-columns (set ∷ sets) k = ap (λ (l : List ℕ). columns_of set ++ l) (no-columns sets k)
 
-module _ (schema : List ℕ) (relation n : ℕ) (sets : List ℕ) (good : in_use n (good_set schema relation) is_zero sets ≡ true) where
+module _ (schema : List ℕ) (relation n : ℕ) (sets : List ℕ) (good : in_use n (good_join_set schema relation) is_zero sets ≡ true) where
   -- All sets are of the relation's columns
   pub sets-within : every (λ set. ltb set (2 ^ get_or schema relation 0)) sets ≡ true
   sets-within =
       every-join (λ set. ltb set (2 ^ get_or schema relation 0)) n sets
-      (every-weaken (good_set schema relation) (λ set. ltb set (2 ^ get_or schema relation 0))
-      (λ set e. lt-ltb set (2 ^ get_or schema relation 0) (good-set schema relation set e).within) (take n sets)
-      (used-good n (good_set schema relation) is_zero sets good))
+      (every-weaken (good_join_set schema relation) (λ set. ltb set (2 ^ get_or schema relation 0))
+      (λ set e. lt-ltb set (2 ^ get_or schema relation 0) (good-join-set schema relation set e).within) (take n sets)
+      (used-good n (good_join_set schema relation) is_zero sets good))
       (every-weaken is_zero (λ set. ltb set (2 ^ get_or schema relation 0))
       (λ set e. lt-ltb set (2 ^ get_or schema relation 0) (subst (λ (k : ℕ). k < 2 ^ get_or schema relation 0) (sym (blank-number set e)) (pow_pos _)))
-      (drop n sets) (used-blank n (good_set schema relation) is_zero sets good))
+      (drop n sets) (used-blank n (good_join_set schema relation) is_zero sets good))
 
   -- Those in use have the columns of all
   pub used-columns : flatten (map columns_of sets) ≡ flatten (map columns_of (take n sets))
   used-columns =
       ap (λ (l : List ℕ). flatten (map columns_of l))
-      (padded n (good_set schema relation) is_zero sets 0 blank-number (used-blank n (good_set schema relation) is_zero sets good))
+      (padded n (good_join_set schema relation) is_zero sets 0 blank-number (used-blank n (good_join_set schema relation) is_zero sets good))
       ∙ no-columns (take n sets) (length sets - n)
 
 -- Four sets are four zeros exactly when each is 0
@@ -107,7 +107,7 @@ zero-sets (a ∷ b ∷ c ∷ d ∷ x ∷ xs) e = absurd (omega arith)
 
 -- A join dependency of 2 to 4 sets that are all good is good exactly when all its sets together cover the columns
 pub covered : {r : Bool} {width : ℕ} (schema : List ℕ) (j : JoinDependency) → 2 ≤ j.count → j.count ≤ 4
-    → in_use j.count (good_set schema j.relation) is_zero j.sets ≡ true → width ≡ get_or schema j.relation 0
+    → in_use j.count (good_join_set schema j.relation) is_zero j.sets ≡ true → width ≡ get_or schema j.relation 0
     → r ≡ subset (numbers_where (λ c. true) 0 width) (flatten (map columns_of j.sets)) → r ≡ good_join schema j
 unfolding good_join
 covered schema j least most sets e is =

@@ -8,7 +8,7 @@ ghost use Rattle.theory.specs.Query.{member, subset, variables_of, row_entries};
 ghost use Rattle.query.specs.View.{entries_of, rows_of, columns_of};
 ghost use Rattle.limits.specs.internal.Entries.{names_variable, safe_cell};
 ghost use Rattle.limits.specs.internal.Answers.{AnswersAs};
-ghost use Rattle.query.specs.Rule.{blank_cell, blank_dependency, blank_query, good_relations, good_set, good_dependency, good_dependencies, good_cell, good_row, good_rows, good_query, head_safe, good_place};
+ghost use Rattle.query.specs.Rule.{blank_cell, blank_dependency, blank_query, good_relations, good_set, good_join_set, good_dependency, good_dependencies, good_cell, good_row, good_rows, good_query, head_safe, good_place};
 ghost use Rattle.query.specs.Rule.{blank_join, good_join, good_joins};
 ghost use Rattle.limits.specs.internal.Schema.{widths_in};
 ghost use Rattle.lists.specs.Tests.{between, every, in_use, is_zero};
@@ -167,15 +167,15 @@ impl Schema {
         }
     }
 
-    // Whether a relation is known and a set of columns is a nonempty set of its columns.
+    // Whether a relation is known and a set of columns, which may be empty, is a set of its columns.
     #[tactic(auto, using(std::proofs::lemmas::Bool::Decides::nat_tests), unfolding(query::specs::Rule::good_set))]
     pub fn set_good(self, relation: u8, left: u8) -> bool
         ensures { result ≡ good_set (widths_in self) relation left }
     {
-        relation < self.relations && left != 0 && u16::from(left) < 1u16 << self.width_of(relation)
+        relation < self.relations && u16::from(left) < 1u16 << self.width_of(relation)
     }
 
-    // Whether a dependency names a known relation, a nonempty set of its columns and one of its columns.
+    // Whether a dependency names a known relation, a set of its columns, which may be empty, and one of its columns.
     #[tactic(auto, using(std::proofs::lemmas::Bool::Decides::nat_tests), unfolding(query::specs::Rule::good_dependency))]
     pub fn dependency_good(self, d: Dependency) -> bool
         ensures { result ≡ good_dependency (widths_in self) d }
@@ -196,14 +196,22 @@ impl Schema {
             )
     }
 
+    // Whether a set of a join dependency is a nonempty set of its relation's columns.
+    #[tactic(auto, using(std::proofs::lemmas::Bool::Decides::nat_tests), unfolding(query::specs::Rule::good_join_set))]
+    fn join_set_good(self, relation: u8, set: u8) -> bool
+        ensures { result ≡ good_join_set (widths_in self) relation set }
+    {
+        self.set_good(relation, set) && set != 0
+    }
+
     // Whether the first n sets are nonempty sets of a relation's columns, and those after them empty.
     fn sets_good(self, relation: u8, sets: &[u8], n: usize) -> bool
-        ensures { result ≡ in_use n (good_set (widths_in self) relation) is_zero sets.now }
+        ensures { result ≡ in_use n (good_join_set (widths_in self) relation) is_zero sets.now }
     {
         in_use(
             sets,
             n,
-            |set| self.set_good(relation, *set),
+            |set| self.join_set_good(relation, *set),
             |set| *set == 0,
         )
     }

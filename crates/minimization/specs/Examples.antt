@@ -1,4 +1,4 @@
--- The reference examples P1 to P11 of SPECIFICATION, Examples, worked examples of the literature on tableaux and the chase, and some that
+-- The reference examples P1 to P11 and V1 to V5 of SPECIFICATION, Examples, worked examples of the literature on tableaux and the chase, and some that
 -- single out a rule: one table.
 -- First what an example says (`Meaning`), then how it is computed (`holds`), then the table, and last the one statement that covers it.
 use Rattle.std.specs.Prelude.{◌≡◌, ◌↔◌, Bool, true, false, ◌&&◌, List, [], ◌∷◌, ◌++◌, ℕ, ◌≤◌, eqb, ltb, length, get_or}
@@ -115,6 +115,10 @@ query head rows = record { head = head; rows = rows }
 -- A dependency with one left column
 abbrev from : ℕ → ℕ → ℕ → Dependency
 from relation left right = record { relation = relation; left = left ∷ []; right = right }
+
+-- A dependency without left columns
+abbrev never_varies : ℕ → ℕ → Dependency
+never_varies relation right = record { relation = relation; left = []; right = right }
 
 -- a determines b in R
 abbrev R·a→b : List Dependency
@@ -268,6 +272,40 @@ kept_rows =
     ∷ keeps R·a→b (query [] (R (v 0) (k 3) ∷ R (v 0) (k 4) ∷ [])) []
     ∷ []
 
+-- Two flights and the sites they started from, say: head v0, v3 with R(v0,v1), R(v2,v3)
+abbrev pub two_rows : Query
+two_rows = query (v 0 ∷ v 3 ∷ []) (R (v 0) (v 1) ∷ R (v 2) (v 3) ∷ [])
+
+-- Columns that never vary. V1 to V5 of SPECIFICATION, Examples, come first
+abbrev pub never_varying : List Example
+never_varying =
+    -- V1: two rows become one
+    reduces (never_varies 0 1 ∷ []) two_rows (v 0 ∷ v 3 ∷ []) 1 1
+    -- V2: without the dependency they stay two
+    ∷ reduces [] two_rows (v 0 ∷ v 3 ∷ []) 2 0
+    -- V3: two constants in such a column clash
+    ∷ reduces (never_varies 0 1 ∷ []) (query [] (R (v 0) (k 3) ∷ R (v 1) (k 4) ∷ [])) [] 0 0
+    -- V4: contained by it, and not without it
+    ∷ compares (never_varies 0 1 ∷ []) two_rows (query (v 0 ∷ v 1 ∷ []) (R (v 0) (v 1) ∷ [])) true
+    ∷ compares [] two_rows (query (v 0 ∷ v 1 ∷ []) (R (v 0) (v 1) ∷ [])) false
+    -- V5: what the empty set determines: nothing, nothing by a dependency that has a left column, and by one that has none all that follows
+    ∷ determines [] 1 [] 0
+    ∷ determines (from 1 0 1 ∷ []) 1 [] 0
+    ∷ determines (from 1 0 1 ∷ never_varies 1 0 ∷ []) 1 [] 2
+    -- what the empty set determines every set does
+    ∷ determines (from 1 0 1 ∷ never_varies 1 0 ∷ []) 1 (2 ∷ []) 3
+    -- a column of R is none of S
+    ∷ determines (never_varies 0 0 ∷ []) 1 [] 0
+    -- every row of the relation, and none of another
+    ∷ chases_to (never_varies 0 1 ∷ []) (query [] (R (v 0) (v 1) ∷ B (v 2) (v 3) ∷ R (v 4) (v 5) ∷ R (v 6) (k 7) ∷ []))
+    (query [] (R (v 0) (k 7) ∷ B (v 2) (v 3) ∷ R (v 4) (k 7) ∷ R (v 6) (k 7) ∷ [])) 2
+    -- a single row agrees with itself
+    ∷ chases_to (never_varies 0 0 ∷ never_varies 0 1 ∷ []) (query (v 0 ∷ []) (R (v 0) (v 1) ∷ [])) (query (v 0 ∷ []) (R (v 0) (v 1) ∷ [])) 0
+    -- where a never varies and determines b, b never varies
+    ∷ compares (never_varies 0 0 ∷ R·a→b) (query (v 1 ∷ v 3 ∷ []) (R (v 0) (v 1) ∷ R (v 2) (v 3) ∷ [])) (query (v 0 ∷ v 0 ∷ []) (R (v 1) (v 0) ∷ [])) true
+    ∷ compares R·a→b (query (v 1 ∷ v 3 ∷ []) (R (v 0) (v 1) ∷ R (v 2) (v 3) ∷ [])) (query (v 0 ∷ v 0 ∷ []) (R (v 1) (v 0) ∷ [])) false
+    ∷ []
+
 -- Cases that are easily passed over
 abbrev pub edge_cases : List Example
 edge_cases =
@@ -296,7 +334,7 @@ edge_cases =
 
 -- The whole table
 abbrev pub examples : List Example
-examples = reference ++ worked ++ further ++ survivors ++ search_order ++ kept_rows ++ edge_cases
+examples = reference ++ worked ++ further ++ survivors ++ search_order ++ kept_rows ++ never_varying ++ edge_cases
 
 -- Each example of the table means what it says
 abbrev pub ExamplesMean : Type 0

@@ -7,7 +7,7 @@ use Rattle.lists.specs.Tests.{every}
 use Rattle.lists.specs.Over.{pad}
 use Rattle.lists.specs.Numbers.{numbers_where}
 use Rattle.query.specs.View.{rows_of, columns_from, mask_of}
-use Rattle.query.specs.Rule.{blank_query, good_relations, good_set, good_dependency, good_dependencies, good_join, good_joins, good_rows, good_up_to, head_safe}
+use Rattle.query.specs.Rule.{blank_query, good_relations, good_set, good_join_set, good_dependency, good_dependencies, good_join, good_joins, good_rows, good_up_to, head_safe}
 use Rattle.query.specs.Examples.{cells_of, Views, RuleExamples}
 
 pub views : Views
@@ -21,6 +21,7 @@ views =
       mask = refl;
       dependency = refl;
       held = refl;
+      held-zeros = refl;
       join = refl;
       held-joins = refl;
       images = refl;
@@ -28,6 +29,6 @@ views =
     }
 
 pub rule : RuleExamples
-unfolding every row_entries variables_of member subset rows_of cells_of pad blank_query good_relations good_set good_dependency good_dependencies
+unfolding every row_entries variables_of member subset rows_of cells_of pad blank_query good_relations good_set good_join_set good_dependency good_dependencies
     good_join good_joins columns_from numbers_where flatten good_rows good_up_to head_safe
 rule = record { pass = refl; fail = refl }

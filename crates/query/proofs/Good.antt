@@ -6,12 +6,12 @@ use mathlib.Core.List.{List}
 use Prim.Native.Nat.{ℕ, ◌*◌, ◌^◌, ◌≤◌, ◌<◌}
 use lib.Dec.{eqb, ltb, leb}
 use lib.ListN.{length, take, drop, get_or}
-use borrow.Author.Tests.{leb-true, ltb-true, eqb-false, not-true, le-leb}
+use borrow.Author.Tests.{leb-true, ltb-true, le-leb}
 use Rattle.query.specs.Types.{Query}
 use Rattle.query.specs.declared.Dependency.{Dependency}
 use Rattle.query.specs.declared.JoinDependency.{JoinDependency}
 use Rattle.lists.specs.Tests.{every, in_use, is_zero}
-use Rattle.query.specs.Rule.{good_set, good_dependency, covers_columns, good_join, good_cell, blank_cell, good_rows, head_in_use, good_up_to}
+use Rattle.query.specs.Rule.{good_set, good_dependency, covers_columns, good_join_set, good_join, good_cell, blank_cell, good_rows, head_in_use, good_up_to}
 use Rattle.lists.proofs.Tests.{and_left, and_right}
 
 -- A query that passes the test for at most so many rows
@@ -57,26 +57,26 @@ GoodQuery schema q = GoodUpTo 12 schema q
 -- A relation and a set of columns that refusal 4 passes
 pub record GoodSet (schema : List ℕ) (relation left : ℕ) : Type 0 where
   pub relation-known : relation < length schema
-  pub nonempty : left ≡ 0 → ⊥
   pub within : left < 2 ^ get_or schema relation 0
 
 pub good-set : (schema : List ℕ) (relation left : ℕ) → good_set schema relation left ≡ true → GoodSet schema relation left
 unfolding good_set
 good-set schema relation left e =
     let a : Bool = ltb relation (length schema) in
-    let b : Bool = not (eqb left 0) in
     let f : Bool = ltb left (2 ^ get_or schema relation 0) in
-    let e2 : a && b ≡ true = and_left (a && b) f e in
     record {
-      relation-known = ltb-true _ _ (and_left a b e2);
-      nonempty = eqb-false _ _ (not-true _ (and_right a b e2));
-      within = ltb-true _ _ (and_right (a && b) f e);
+      relation-known = ltb-true _ _ (and_left a f e);
+      within = ltb-true _ _ (and_right a f e);
     }
+
+-- A set of a join dependency is one
+pub good-join-set : (schema : List ℕ) (relation set : ℕ) → good_join_set schema relation set ≡ true → GoodSet schema relation set
+unfolding good_join_set
+good-join-set schema relation set e = good-set schema relation set (and_left (good_set schema relation set) (not (eqb set 0)) e)
 
 -- A dependency that refusal 4 passes
 pub record GoodDependency (schema : List ℕ) (d : Dependency) : Type 0 where
   pub relation : d.relation < length schema
-  pub nonempty : d.left ≡ 0 → ⊥
   pub left : d.left < 2 ^ get_or schema d.relation 0
   pub right : d.right < get_or schema d.relation 0
 
@@ -84,23 +84,20 @@ pub good-dependency : (schema : List ℕ) (d : Dependency) → good_dependency s
 unfolding good_dependency good_set
 good-dependency schema d e =
     let a : Bool = ltb d.relation (length schema) in
-    let b : Bool = not (eqb d.left 0) in
     let f : Bool = ltb d.left (2 ^ get_or schema d.relation 0) in
     let g : Bool = ltb d.right (get_or schema d.relation 0) in
-    let e3 : a && b && f ≡ true = and_left (a && b && f) g e in
-    let e2 : a && b ≡ true = and_left (a && b) f e3 in
+    let e2 : a && f ≡ true = and_left (a && f) g e in
     record {
-      relation = ltb-true _ _ (and_left a b e2);
-      nonempty = eqb-false _ _ (not-true _ (and_right a b e2));
-      left = ltb-true _ _ (and_right (a && b) f e3);
-      right = ltb-true _ _ (and_right (a && b && f) g e);
+      relation = ltb-true _ _ (and_left a f e2);
+      left = ltb-true _ _ (and_right a f e2);
+      right = ltb-true _ _ (and_right (a && f) g e);
     }
 
 -- A join dependency that refusal 15 passes
 pub record GoodJoin (schema : List ℕ) (j : JoinDependency) : Type 0 where
   pub least : 2 ≤ j.count
   pub most : j.count ≤ 4
-  pub sets : in_use j.count (good_set schema j.relation) is_zero j.sets ≡ true
+  pub sets : in_use j.count (good_join_set schema j.relation) is_zero j.sets ≡ true
   pub covers : covers_columns schema j ≡ true
 
 pub good-join : (schema : List ℕ) (j : JoinDependency) → good_join schema j ≡ true → GoodJoin schema j
@@ -108,7 +105,7 @@ unfolding good_join
 good-join schema j e =
     let low : Bool = leb 2 j.count in
     let high : Bool = leb j.count 4 in
-    let b : Bool = in_use j.count (good_set schema j.relation) is_zero j.sets in
+    let b : Bool = in_use j.count (good_join_set schema j.relation) is_zero j.sets in
     let d : Bool = covers_columns schema j in
     let e2 : (low && high) && b ≡ true = and_left ((low && high) && b) d e in
     let e1 : low && high ≡ true = and_left (low && high) b e2 in

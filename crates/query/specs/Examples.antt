@@ -93,6 +93,8 @@ pub record Views : Type 0 where
   -- columns 0 and 1 determine column 1; of two dependencies the first is held
   pub dependency : dependency_of (depends 3 1) ≡ record { relation = 0; left = 0 ∷ 1 ∷ []; right = 1 }
   pub held : held_of (depends 3 1 ∷ depends 1 1 ∷ []) 1 ≡ dependency_of (depends 3 1) ∷ []
+  -- a dependency of zeros that is held says that column 0 never varies
+  pub held-zeros : held_of (no_dependency ∷ no_dependency ∷ []) 1 ≡ record { relation = 0; left = []; right = 0 } ∷ []
   -- column 0, and columns 0 and 1; of two join dependencies the first is held
   pub join : join_of (joins (1 ∷ 3 ∷ [])) ≡ record { relation = 0; sets = (0 ∷ []) ∷ (0 ∷ 1 ∷ []) ∷ [] }
   pub held-joins : held_joins (joins (1 ∷ 3 ∷ []) ∷ joins (1 ∷ 2 ∷ []) ∷ []) 1 ≡ join_of (joins (1 ∷ 3 ∷ [])) ∷ []
@@ -107,12 +109,13 @@ abbrev pub good_cases : List Bool
 good_cases =
     -- one relation of 1 column; 8 of 8
     good_relations 1 (pad 8 0 (1 ∷ [])) ∷ good_relations 8 (replicate 8 8)
-    -- all columns of a relation as a set, of 2 and of 8
-    ∷ good_set schema 0 3 ∷ good_set schema 1 255
-    -- the last column as the right one
-    ∷ good_dependency schema (depends 3 1)
-    -- no dependency; 32 of them
+    -- all columns of a relation as a set, of 2 and of 8; no column
+    ∷ good_set schema 0 3 ∷ good_set schema 1 255 ∷ good_set schema 0 0
+    -- the last column as the right one; no left column
+    ∷ good_dependency schema (depends 3 1) ∷ good_dependency schema (depends 0 1)
+    -- no dependency; 32 of them; one of zeros, and 32 of these, which only their number tells from none
     ∷ good_dependencies schema 0 (replicate 32 no_dependency) ∷ good_dependencies schema 32 (replicate 32 (depends 3 1))
+    ∷ good_dependencies schema 1 (replicate 32 no_dependency) ∷ good_dependencies schema 32 (replicate 32 no_dependency)
     -- 2 sets that share no column and 4 that do; none held, and 4 of them
     ∷ good_join schema (joins (1 ∷ 2 ∷ [])) ∷ good_join schema (joins (3 ∷ 1 ∷ 3 ∷ 2 ∷ []))
     ∷ good_joins schema 0 (replicate 4 no_join) ∷ good_joins schema 4 (replicate 4 (joins (1 ∷ 2 ∷ []))) ∷ shaped_join no_join
@@ -137,10 +140,10 @@ bad_cases =
     -- no relation; 9; one of 0 columns; one of 9; a width that is not in use
     good_relations 0 (replicate 8 0) ∷ good_relations 9 (replicate 9 8) ∷ good_relations 2 (pad 8 0 (1 ∷ 0 ∷ [])) ∷ good_relations 1 (pad 8 0 (9 ∷ []))
     ∷ good_relations 1 (pad 8 0 (1 ∷ 1 ∷ []))
-    -- no column as a set; a third column of 2; an unknown relation
-    ∷ good_set schema 0 0 ∷ good_set schema 0 4 ∷ good_set schema 2 0 ∷ good_set schema 2 1
-    -- a right column past the last; no left column
-    ∷ good_dependency schema (depends 3 2) ∷ good_dependency schema (depends 0 1)
+    -- a third column of 2; an unknown relation, of no column and of one
+    ∷ good_set schema 0 4 ∷ good_set schema 2 0 ∷ good_set schema 2 1
+    -- a right column past the last, of all left columns and of none; an unknown relation
+    ∷ good_dependency schema (depends 3 2) ∷ good_dependency schema (depends 0 2) ∷ good_dependency schema (record { relation = 2; left = 0; right = 0 })
     -- 33 dependencies; one that is not in use; a bad one
     ∷ good_dependencies schema 33 (replicate 33 (depends 3 1)) ∷ good_dependencies schema 0 (pad 32 no_dependency (depends 0 1 ∷ []))
     ∷ good_dependencies schema 1 (pad 32 no_dependency (depends 3 2 ∷ []))

@@ -44,11 +44,11 @@ blank_query q = is_zero q.arity && is_zero q.size && every blank_cell q.head && 
 unfoldable pub good_relations : ℕ → List ℕ → Bool
 good_relations relations widths = between 1 8 relations && in_use relations (between 1 8) is_zero widths
 
--- A known relation and a nonempty set of its columns: what refusal 4 asks of a question about determined columns
+-- A known relation and a set of its columns, which may be empty: what refusal 4 asks of a question about determined columns
 unfoldable pub good_set : List ℕ → ℕ → ℕ → Bool
-good_set schema relation left = ltb relation (length schema) && not (eqb left 0) && ltb left (2 ^ get_or schema relation 0)
+good_set schema relation left = ltb relation (length schema) && ltb left (2 ^ get_or schema relation 0)
 
--- A known relation, a nonempty set of its columns and one of its columns
+-- A known relation, a set of its columns, which may be empty, and one of its columns
 unfoldable pub good_dependency : List ℕ → Dependency → Bool
 good_dependency schema d = good_set schema d.relation d.left && ltb d.right (get_or schema d.relation 0)
 
@@ -60,9 +60,13 @@ good_dependencies schema held dependencies = leb held 32 && in_use held (good_de
 abbrev pub covers_columns : List ℕ → JoinDependency → Bool
 covers_columns schema j = theory.subset (numbers_where (λ c. true) 0 (get_or schema j.relation 0)) (flatten (join_of j).sets)
 
+-- A set of a join dependency is a nonempty set of its relation's columns
+unfoldable pub good_join_set : List ℕ → ℕ → ℕ → Bool
+good_join_set schema relation set = good_set schema relation set && not (eqb set 0)
+
 -- A known relation and 2 to 4 nonempty sets of its columns that together are all of them: what refusal 15 asks of a join dependency
 unfoldable pub good_join : List ℕ → JoinDependency → Bool
-good_join schema j = between 2 4 j.count && in_use j.count (good_set schema j.relation) is_zero j.sets && covers_columns schema j
+good_join schema j = between 2 4 j.count && in_use j.count (good_join_set schema j.relation) is_zero j.sets && covers_columns schema j
 
 -- 0 to 4 join dependencies
 unfoldable pub good_joins : List ℕ → ℕ → List JoinDependency → Bool

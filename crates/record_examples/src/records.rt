@@ -2,7 +2,7 @@
 // A line is the call with the number of the case, and the answer: done, or the refusal's number, or a set of columns (bit c for column c) and its size.
 // Relation 0 is R with columns a, b, and relation 1 is S with columns a, b, c.
 use example_parts::queries;
-use query::{Cell, Dependency, Entry, JoinDependency, Query};
+use query::{Cell, Dependency, Entry, JoinDependency, NO_DEPENDENCY, Query};
 use record::{Outcome, Record};
 use std::io;
 
@@ -92,8 +92,8 @@ fn drops(rt: &impl Print, r: Record) -> io::Result<()> {
     Ok(())
 }
 
-// a to b of S, b to c of S, and dependencies that are refused.
-fn dependencies() -> [Dependency; 6] {
+// a to b of S, b to c of S, dependencies without a left column, and some that are refused.
+fn dependencies() -> [Dependency; 9] {
     let a_to_b = Dependency {
         relation: 1,
         left: 1,
@@ -112,16 +112,28 @@ fn dependencies() -> [Dependency; 6] {
             relation: 2,
             ..a_to_b
         },
-        // an empty left set
+        // b of S never varies
         Dependency { left: 0, ..a_to_b },
         // left column 3
         Dependency { left: 8, ..a_to_b },
         // right column 3
         Dependency { right: 3, ..a_to_b },
+        // a of R never varies: zeros, which are a dependency where they are counted
+        NO_DEPENDENCY,
+        // an unknown relation, without a left column
+        Dependency {
+            relation: 2,
+            ..NO_DEPENDENCY
+        },
+        // right column 2 of R, without a left column
+        Dependency {
+            right: 2,
+            ..NO_DEPENDENCY
+        },
     ]
 }
 
-// Add the dependency of each case.
+// Add the dependency of each case. Where the record is good and holds fewer than 32, 4 is given for 2, 4, 5, 7 and 8.
 fn adds(rt: &impl Print, r: Record) -> io::Result<()> {
     for (case, d) in dependencies().iter().enumerate() {
         print!(rt; "add {case}: ")?;
@@ -140,6 +152,16 @@ fn full(rt: &impl Print, r: Record) -> io::Result<Record> {
         grown = answer(rt, grown.add_dependency(dependencies[1 - case % 2]))?;
     }
     Ok(grown)
+}
+
+// The record with b to c, and b and the a of R that never vary.
+fn unvarying(r: Record) -> Record {
+    let dependencies = dependencies();
+    let mut grown = r;
+    for case in [1, 3, 6] {
+        grown = grown.add_dependency(dependencies[case]).record;
+    }
+    grown
 }
 
 // a b and b c of S, the same with two sets more, and join dependencies that are refused.
@@ -241,6 +263,9 @@ pub fn all(rt: &impl Print) -> io::Result<()> {
     determined(rt, grown, 1)?;
     determined(rt, grown, 0)?;
     determined(rt, grown, 2)?;
+    let never_varies = unvarying(r);
+    determined(rt, never_varies, 1)?;
+    determined(rt, never_varies, 0)?;
     let four = joined(rt, grown)?;
     joins(rt, four)?;
     adds(rt, four)?;

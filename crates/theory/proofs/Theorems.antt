@@ -8,7 +8,7 @@ use mathlib.Core.Option.{none, some}
 use Prim.Native.Nat.{ℕ, suc, ◌+◌}
 use native.Mathlib.Omega.{arith}
 use lib.ListN.{length, length-map}
-use Rattle.theory.specs.Query.{Query, never, map_row, map_query, variable_count}
+use Rattle.theory.specs.Query.{Query, never, map_row, map_query, variable_count, ◌∈◌}
 use Rattle.theory.specs.Database.{Dependency}
 use Rattle.theory.specs.Answer.{value_of, itself}
 use Rattle.theory.specs.Chase.{first_pair, breaks, first_broken, clash, substitute, step, Chases, rests, clashes, replaces, chase}
@@ -52,6 +52,15 @@ only-rows-count D E same = (
 
 pub own-width : answers.OwnWidth
 own-width = (omega arith, refl)
+
+nothing : {c : ℕ} → c ∈ [] → {B : Type 0} → B
+nothing at = elim at [ ]
+
+pub no-left-column : answers.NoLeftColumn
+no-left-column d D no-left = (
+  λ obeys r s at at' is is'. obeys r s at at' is is' (λ c there. nothing (subst (λ (cs : List ℕ). c ∈ cs) no-left there)),
+  λ same r s at at' is is' agree. same r s at at' is is',
+)
 
 pub never-has-no-mapping : answers.NeverHasNoMapping
 never-has-no-mapping S T f = (f.1.carries.not-never, mapping-target S T f)

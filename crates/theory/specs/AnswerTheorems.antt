@@ -1,7 +1,7 @@
--- What is proved of answers and mappings. Each statement is proved in `proofs/Theorems`.
+-- What is proved of answers, databases and mappings. Each statement is proved in `proofs/Theorems`.
 use Rattle.std.specs.Prelude.{◌≡◌, ◌≢◌, ◌↔◌, List, [], ◌∷◌, ℕ, length}
-use Rattle.theory.specs.Query.{Row, Query, FitsSchema, ◌∈◌}
-use Rattle.theory.specs.Database.{Database, Dependency, Obeys, Sound}
+use Rattle.theory.specs.Query.{Row, Query, column, FitsSchema, ◌∈◌}
+use Rattle.theory.specs.Database.{Database, Dependency, ObeysOne, Obeys, Sound}
 use Rattle.theory.specs.Answer.{Answer, Mapping}
 
 -- The never query has no answer anywhere, whatever its head's length
@@ -27,6 +27,15 @@ OnlyRowsCount =
 -- A row has as many values as its own relation has columns: under the widths 2 and 3 a row of relation 1 with three values fits
 abbrev pub OwnWidth : Type 0
 OwnWidth = FitsSchema {A = ℕ} (2 ∷ 3 ∷ []) (record { relation = 1; values = 5 ∷ 6 ∷ 7 ∷ [] })
+
+-- A column never varies: in a database all rows of the relation have one value there
+abbrev pub NeverVaries : ℕ → ℕ → Database → Type 0
+NeverVaries relation c D =
+    (r s : Row ℕ) → r ∈ D → s ∈ D → r.relation ≡ relation → s.relation ≡ relation → column 0 r c ≡ column 0 s c
+
+-- A dependency without left columns says of its right column that it never varies
+abbrev pub NoLeftColumn : Type 0
+NoLeftColumn = (d : Dependency) (D : Database) → d.left ≡ [] → ObeysOne d D ↔ NeverVaries d.relation d.right D
 
 -- There is no mapping from never, and none to it
 abbrev pub NeverHasNoMapping : Type 0

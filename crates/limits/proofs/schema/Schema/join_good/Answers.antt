@@ -2,7 +2,7 @@
 use Rattle.std.proofs.Common.{◌≡◌, ◌^◌, ℕ, true, ap, ◌∙◌, arith}
 use lib.Dec.{ltb}
 use Rattle.lists.specs.Tests.{every, in_use, is_zero}
-use Rattle.query.specs.Rule.{good_set}
+use Rattle.query.specs.Rule.{good_join_set}
 use Rattle.query.proofs.Relations.{width-le}
 use Rattle.limits.specs.internal.Schema.{widths_in}
 use Rattle.limits.proofs.Sets.{sets-within, covered}
@@ -13,7 +13,7 @@ pub sets_cover-requires : goal.sets_cover-requires
 sets_cover-requires c =
     let schema = widths_in c.args.self in
     let j = c.args.j in
-    let good : in_use j.count (good_set schema j.relation) is_zero j.sets ≡ true =
+    let good : in_use j.count (good_join_set schema j.relation) is_zero j.sets ≡ true =
     elim c.if-j-le4.branch [ then-j-le4 w ↦ cc | else-j-le4 w ↦ cc ]
     in (
       omega (arith, c.width_of.ensures, width-le _ _ c.args.self.good j.relation),
