@@ -163,9 +163,9 @@ def usage() -> Parser:
     )
     group.add_argument("--count", action="store_true", help="print how many answers there are, and nothing else")
     with_data(on_file("test", test_command, "say whether a database obeys the dependencies, functional and join dependencies"))
-    made = on_file("determined", determined_command, "print the columns that some columns determine by the functional dependencies")
+    made = on_file("determined", determined_command, "print the columns that some columns determine by the functional dependencies, or those that never vary")
     made.add_argument("table", metavar="TABLE", help="the name of a table")
-    made.add_argument("column", metavar="COLUMN", nargs="+", help="the name of a column of it")
+    made.add_argument("column", metavar="COLUMN", nargs="*", help="the name of a column of it; without any, the columns that never vary are printed")
     made = changing("reduce", reduce_command, "put the short form of a query into a vacant place", functional)
     made.add_argument("query", metavar="QUERY", type=place_or_rule, help=query)
     made.add_argument("target", metavar="PLACE", nargs="?", type=place, help="the vacant place, 0 to 7; without it, the first")
@@ -179,8 +179,8 @@ def usage() -> Parser:
         "dependency",
         metavar="DEPENDENCY",
         nargs="+",
-        help="as in 'layer: flight, level -> height, temperature', or a key, 'layer(flight*, level*, height, temperature)', "
-        "or a join dependency, 'layer: join (flight, level, height) (flight, level, temperature)'",
+        help="as in 'layer: flight, level -> height, temperature', or a column that never varies, 'flight: -> site', "
+        "or a key, 'layer(flight*, level*, height, temperature)', or a join dependency, 'layer: join (flight, level, height) (flight, level, temperature)'",
     )
     made = command("pack", pack_command, "make an archive file, and its names file, from a text")
     made.add_argument("text", metavar="TEXT", help="the text of an archive, or - for standard input")

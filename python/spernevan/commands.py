@@ -45,6 +45,7 @@ from .notation import (
     format_dependency,
     format_query,
     format_row,
+    never_varies,
     parse_dependencies,
     parse_rule,
 )
@@ -438,7 +439,9 @@ def _broken(record: Record, database: Database, broken: AnyBroken) -> List[str]:
     dependency = format_dependency(record.dependency_of(broken), record.names)
     if not isinstance(broken, BrokenJoin):
         rows = [f"  {database.say(position)}" for position in (broken.first, broken.second)]
-        return [f"Breaks {dependency} (dependency {broken.dependency}):", *rows]
+        says = never_varies(record.dependency_of(broken), record.names)
+        meaning = f", by which {says}" if says else ""
+        return [f"Breaks {dependency} (dependency {broken.dependency}){meaning}:", *rows]
     join = record.join_dependencies[broken.dependency]
     rows = [
         f"  {database.say(position)} gives {format_columns(join.relation, sorted(columns), record.names)}" for position, columns in zip(broken.rows, join.sets)
@@ -509,10 +512,14 @@ def determined_command(options: Options) -> int:
     relation = one(options.table, names.relation)
     left = [one(column, lambda reader: names.column(relation, reader)) for column in options.column]
     columns = sorted(record.determined(relation, left))
-    print(
-        f"{names.tables[relation].name}: {format_columns(relation, sorted(set(left)), names)} determines "
-        f"{format_columns(relation, columns, names)} ({len(columns)} of {count(record.widths[relation], 'column')})"
-    )
+    shown = format_columns(relation, columns, names)
+    if left:
+        said = f"{format_columns(relation, sorted(set(left)), names)} determines {shown}"
+    elif columns:
+        said = f"{shown} never {'varies' if len(columns) == 1 else 'vary'}"
+    else:
+        said = "no column has to be the same in all rows"
+    print(f"{names.tables[relation].name}: {said} ({len(columns)} of {count(record.widths[relation], 'column')})")
     return YES
 
 

@@ -31,8 +31,7 @@ MEANINGS = {
     1: "the file does not begin as an archive file does; it is cut short, or of another kind",
     2: "the parts of the file do not follow one another to its end; it is cut short, or something was added to it",
     3: "there must be 1 to 8 tables of 1 to 8 columns each, and in a file nothing else in their part",
-    4: "a functional dependency, or a set of columns, is wrong: its table and columns must exist, at least one of them on the left, "
-    "and in a file there are at most 32",
+    4: "a functional dependency, or a set of columns, is wrong: its table and columns must exist, and in a file there are at most 32",
     5: "a query is wrong: at most 8 entries in the head, 12 rows, variables to v95, constants to 2147483647, "
     "rows of tables that exist, and in a file nothing else in its part and no vacant place at the end",
     6: "a variable of the head is in no row",
@@ -260,7 +259,7 @@ def open_record(widths: bytes) -> bytes:
 
 
 def add(file: bytes, relation: int, left: int, right: int) -> bytes:
-    """The file after a functional dependency is added; `left` is a set of columns as a byte."""
+    """The file after a functional dependency is added; `left` is a set of columns as a byte, 0 if there is none."""
     room = _Room(LONGEST_FILE)
     numbers = _byte("a relation", relation), _byte("a left set", left), _byte("a right column", right)
     _call("add", *_slice(file), *numbers, *room.lent())
@@ -289,7 +288,7 @@ def drop(file: bytes, place: int) -> bytes:
 
 
 def determined(file: bytes, relation: int, left: int) -> Tuple[int, int]:
-    """The columns that a left set determines, as a byte, and how many they are."""
+    """The columns that a left set determines, as a byte, and how many they are; of the empty set, those that never vary."""
     columns, count = ctypes.c_uint8(), ctypes.c_uint8()
     numbers = _byte("a relation", relation), _byte("a left set", left)
     _call("determined", *_slice(file), *numbers, ctypes.byref(columns), ctypes.byref(count))

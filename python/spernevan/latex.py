@@ -189,7 +189,8 @@ def dependency(one: AnyDependency, names: Names) -> str:
 
     if isinstance(one, JoinDependency):
         return rf"{table_name(table.name)}:~$\bowtie$~{' '.join(f'({listed(columns)})' for columns in one.sets)}"
-    return rf"{table_name(table.name)}: {listed(one.left)}~$\to$~{column_name(table.columns[one.right])}"
+    left = listed(one.left) or r"$\emptyset$"
+    return rf"{table_name(table.name)}: {left}~$\to$~{column_name(table.columns[one.right])}"
 
 
 def form(query: Query, definition: Definition) -> str:

@@ -167,7 +167,10 @@ class Query:
 
 @dataclass(frozen=True)
 class Dependency:
-    """A functional dependency: rows of the relation that agree on every left column agree on the right one."""
+    """A functional dependency: rows of the relation that agree on every left column agree on the right one.
+
+    With no left column all rows of the relation agree on the right one: it never varies.
+    """
 
     relation: int
     left: FrozenSet[int]

@@ -109,9 +109,9 @@ class Names:
         known = f"there is {', '.join(table.name for table in self.tables)}" if self.tables else "the lines of the tables come first"
         raise reader.error(token, f"there is no table {token.text}; {known}")
 
-    def column(self, relation: int, reader: Reader) -> int:
-        """The number of the column that the next token names."""
-        token = reader.take("name", "the name of a column")
+    def column(self, relation: int, reader: Reader, what: str = "the name of a column") -> int:
+        """The number of the column that the next token names; `what` says in an error what is expected."""
+        token = reader.take("name", what)
         table = self.tables[relation]
         if token.text not in table.columns:
             raise reader.error(token, f"{table} has no column {token.text}")
@@ -453,24 +453,26 @@ def constants(query: Query) -> List[int]:
 
 
 def read_dependencies(reader: Reader, names: Names) -> Sequence[AnyDependency]:
-    """`layer: flight, level -> height, temperature`, a functional dependency for each column on the right; or a join dependency,
-    `layer: join (flight, level, height) (flight, level, temperature)`."""
+    """`layer: flight, level -> height, temperature`, a functional dependency for each column on the right; or `flight: -> site`, which has
+    none on the left and says that the column never varies; or a join dependency, `layer: join (flight, level, height) (flight, level, temperature)`."""
     relation = names.relation(reader)
     reader.take(":")
     if reader.next.text == "join" and (reader.then.kind == "(" or "join" not in names.tables[relation].columns):
         return [_read_join(reader, names, relation)]
-    left = [names.column(relation, reader)]
-    while reader.try_take(","):
-        left.append(names.column(relation, reader))
-    if reader.next.kind == "name":
-        raise reader.error(reader.next, f"a comma is missing before {reader.next.text:.40}")
+    left = [] if reader.next.kind == "->" else _read_columns(reader, names, relation, "the name of a column or '->'")
     reader.take("->", "',' or '->'")
-    right = [names.column(relation, reader)]
+    right = _read_columns(reader, names, relation, "the name of a column")
+    return [Dependency(relation, frozenset(left), column) for column in right]
+
+
+def _read_columns(reader: Reader, names: Names, relation: int, first: str) -> List[int]:
+    """`flight, level`: one or more columns with commas between them. `first` says what may stand where the first of them does."""
+    found = [names.column(relation, reader, first)]
     while reader.try_take(","):
-        right.append(names.column(relation, reader))
+        found.append(names.column(relation, reader))
     if reader.next.kind == "name":
         raise reader.error(reader.next, f"a comma is missing before {reader.next.text:.40}")
-    return [Dependency(relation, frozenset(left), column) for column in right]
+    return found
 
 
 def _read_join(reader: Reader, names: Names, relation: int) -> JoinDependency:
@@ -498,8 +500,8 @@ def _read_join(reader: Reader, names: Names, relation: int) -> JoinDependency:
 
 
 def parse_dependencies(text: str, names: Names, source: str = "dependency") -> Sequence[AnyDependency]:
-    """The dependencies of a line such as `layer: flight, level -> height`, or `layer(flight*, level*, height)` for a key of a table,
-    or `layer: join (flight, level) (level, height)`."""
+    """The dependencies of a line such as `layer: flight, level -> height`, or `flight: -> site` for a column that never varies,
+    or `layer(flight*, level*, height)` for a key of a table, or `layer: join (flight, level) (level, height)`."""
     reader = Reader(text, source)
     reader.at_end()
     found: Sequence[AnyDependency] = read_key(reader, names) if reader.then.kind == "(" else read_dependencies(reader, names)
@@ -553,9 +555,17 @@ def format_dependencies(dependencies: Sequence[AnyDependency], names: Names) -> 
         if before == (dependency.relation, dependency.left):
             lines[-1] += f", {right}"
         else:
-            lines.append(f"{table.name}: {format_columns(dependency.relation, sorted(dependency.left), names)} -> {right}")
+            left = format_columns(dependency.relation, sorted(dependency.left), names)
+            lines.append(f"{table.name}: {left} -> {right}" if left else f"{table.name}: -> {right}")
         before = dependency.relation, dependency.left
     return lines
+
+
+def never_varies(dependency: AnyDependency, names: Names) -> str:
+    """`site never varies`, which a dependency without a left column says; nothing for another one."""
+    if isinstance(dependency, JoinDependency) or dependency.left:
+        return ""
+    return f"{names.tables[dependency.relation].columns[dependency.right]} never varies"
 
 
 __all__ = [
@@ -581,6 +591,7 @@ __all__ = [
     "format_row",
     "format_variable_names",
     "key_dependencies",
+    "never_varies",
     "parse_dependencies",
     "parse_query",
     "parse_rule",

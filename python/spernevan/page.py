@@ -154,7 +154,8 @@ def _schema(record: Record, names: Names) -> str:
 
 
 def _arrow(text: str) -> str:
-    return text.replace(" -> ", " \u2192 ")
+    """A dependency with an arrow, before which the empty set has its sign."""
+    return text.replace(": -> ", ": \u2205 -> ").replace(" -> ", " \u2192 ")
 
 
 def _link(one: Definition) -> str:

@@ -66,6 +66,7 @@ from .notation import (
     format_datum,
     format_dependency,
     format_names,
+    never_varies,
     parse_dependencies,
     parse_rule,
     read_names_file,
@@ -361,14 +362,18 @@ class Record:
             meaning = f"{shows}: only heads of one length can be compared"
         return Refused(refused.number, meaning)
 
-    def add(self, relation: Union[int, str], left: Iterable[int] = (), right: int = 0) -> Record:
-        """The record with one more functional dependency: the left columns determine the right one.
+    def add(self, relation: Union[int, str], left: Optional[Iterable[int]] = None, right: Optional[int] = None) -> Record:
+        """The record with one more functional dependency: the left columns determine the right one. With no left column, `()`,
+        all rows of the relation agree on the right one: it never varies.
 
-        A text such as `layer: flight, level -> height, temperature` adds one for each column on its right, and
-        `layer: join (flight, level, height) (flight, level, temperature)` adds a join dependency, as `add_join` does.
+        A text such as `layer: flight, level -> height, temperature` adds one for each column on its right, `flight: -> site`
+        one without a left column, and `layer: join (flight, level, height) (flight, level, temperature)` a join dependency,
+        as `add_join` does.
         """
         if isinstance(relation, str):
             return self.add_all(parse_dependencies(relation, self.names))
+        if left is None or right is None:
+            raise ValueError("a functional dependency has left columns, () for none, and a right column")
         try:
             return self._of(engine.add(self.file, relation, mask_of(left), right), self._names, self._named)
         except Refused as refused:
@@ -422,7 +427,7 @@ class Record:
         return self._of(file, None if self._names is None else self._names.with_variables(place, None), self._named)
 
     def determined(self, relation: int, left: Iterable[int]) -> FrozenSet[int]:
-        """The columns that the left columns determine by the functional dependencies."""
+        """The columns that the left columns determine by the functional dependencies; of no left column, `()`, those that never vary."""
         columns, _ = engine.determined(self.file, relation, mask_of(left))
         return columns_of(columns)
 
@@ -666,8 +671,11 @@ class Record:
             positions = found.rows if isinstance(found, BrokenJoin) else (found.first, found.second)
             shown = [database.say(position) for position in positions]
             shown += [f"missing: {self.missing(found, database)}"] if isinstance(found, BrokenJoin) else []
+            dependency = self.dependency_of(found)
+            says = never_varies(dependency, self.names)
+            shown = [says, *shown] if says else shown
             warnings.warn(
-                f"the database breaks {format_dependency(self.dependency_of(found), self.names)} ({'; '.join(shown)}): {self.consequence(found, query)}",
+                f"the database breaks {format_dependency(dependency, self.names)} ({'; '.join(shown)}): {self.consequence(found, query)}",
                 stacklevel=4,
             )
 

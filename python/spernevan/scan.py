@@ -43,7 +43,7 @@ _PATTERN = re.compile(
     r"|(?P<decimal>-[0-9]+(?:\.[0-9]+)?(?:[eE][+-]?[0-9]+)?|[0-9]+(?:\.[0-9]+(?:[eE][+-]?[0-9]+)?|[eE][+-]?[0-9]+))"
     r"|(?P<number>[0-9]+)"
     r"""|(?P<text>'(?:[^'\n]|'')*'|"(?:[^"\\\n]|\\[^\n])*")"""
-    r"|(?P<sign>:-|->|[(),:*=])|(?P<name>[^\W\d]\w*)"
+    r"|(?P<sign>:-(?!>)|->|[(),:*=])|(?P<name>[^\W\d]\w*)"
 )
 _GOES_ON = {"newline", ",", "(", ":", ":-", "->"}
 _VALUES = {"number", "decimal", "date", "text"}
@@ -175,6 +175,7 @@ _CURES = [
         (r"\.[^\S\n]*(?:#|\n|\Z)", "a line ends without one"),
         (r"\.", "a decimal has digits before and after its point"),
         (r"(?<==)>|[\u2192\u27f6]", "'->' goes between the columns of a dependency"),
+        (r"\u2205", "a column that never varies has nothing before its '->', as in flight: -> site"),
         (r"\u22c8", "a join dependency is written with the word, as in layer: join (flight, level) (level, height)"),
         (r"<-", "':-' goes between the head of a rule and its rows"),
         (r"[<>!\u2260\u2264\u2265]", "a rule has rows alone, joined by equal values, and no comparisons; a dependency has ->"),

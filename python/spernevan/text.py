@@ -4,8 +4,9 @@
     flight(number*, sonde, site)
     sonde(number, calibration, maker)
 
-    # further dependencies, in their order; the last says that the table is the join of two parts of it
+    # further dependencies, in their order; the second says that all flights have one site, the last that the table is the join of two parts of it
     sonde: number -> calibration, maker
+    flight: -> site
     sonde: join (number, calibration) (number, maker)
 
     # saved queries, by place; the other places are vacant

@@ -148,7 +148,7 @@ class Refusals(Calls):
             (1, ""), (1, "03"), (1, "0100"), (1, "0B00"), (1, "0300 0E000200"),
             (2, "0300 0F000200" + EXAMPLE[6:].hex()), (2, EXAMPLE.hex() + "00"), (2, EXAMPLE.hex()[:-2]),
             (3, EXAMPLE.hex().replace("0103", "0109", 1)), (4, EXAMPLE.hex().replace("01000101", "01000103", 1)),
-            (4, EXAMPLE.hex().replace("01000101", "01000001", 1)), (5, EXAMPLE.hex().replace("0302", "0902", 1)),
+            (4, EXAMPLE.hex().replace("01000101", "01000801", 1)), (5, EXAMPLE.hex().replace("0302", "0902", 1)),
             (6, EXAMPLE.hex().replace("0101000000", "0109000000", 1)),
         ]:
             with self.subTest(number=number, text=text[:40]):
@@ -160,16 +160,17 @@ class Refusals(Calls):
             self.refused(3, Record.open, widths)
 
     def test_dependencies(self):
-        for bad in ((2, [0], 0), (255, [0], 0), (0, [], 0), (0, [2], 0), (0, [0, 7], 1), (0, [0], 2), (0, [0], 255)):
+        for bad in ((2, [0], 0), (2, [], 0), (255, [0], 0), (0, [], 2), (0, [2], 0), (0, [0, 7], 1), (0, [0], 2), (0, [0], 255)):
             self.refused(4, self.record.add, *bad)
-        for bad in ((2, [0]), (0, []), (0, [2]), (1, [1])):
+        for bad in ((2, [0]), (2, []), (255, []), (0, [2]), (1, [1])):
             self.refused(4, self.record.determined, *bad)
         record = self.record
         for _ in range(31):
             record = record.add(0, [0], 1)
         self.assertEqual(len(record.dependencies), 32)
         self.refused(13, record.add, 0, [0], 1)
-        self.refused(4, record.add, 0, [], 1)
+        self.refused(13, record.add, 0, [], 1)
+        self.refused(4, record.add, 0, [], 2)
 
     def test_queries(self):
         for bad in (
@@ -259,6 +260,7 @@ class Hostile(Calls):
             (Record.open, [258, 1]), (Record.open, "21"),
             (record.add, 256, [0], 1), (record.add, -1, [0], 1), (record.add, 0, [8], 1), (record.add, 0, [0], 257),
             (record.add, 0, 1, 1), (record.add, "R0", [0], 1), (record.add, 0, ["a"], 1), (record.add, 0, [0], None),
+            (record.add, 0), (record.add, 0, [0]), (record.add, 0, None, 1),
             (record.add_join, 256, [[0], [1]]), (record.add_join, -1, [[0], [1]]), (record.add_join, 0, 3), (record.add_join, 0, [0, 1]),
             (record.add_join, 0, [[0], [8]]), (record.add_join, 0, [[0], ["b"]]), (record.add_join, "R0", [[0], [1]]),
             (record.put, -1, query), (record.put, 1.0, query), (record.put, None, query), (record.put, 1, None),

@@ -43,7 +43,7 @@ class Changes(Command):
         )
         self.assertIn("burst: flight -> height\nburst: height -> flight\nlayer: level -> height, flight\n", self.done("unpack", self.file))
         self.failed("dependency:1:8: burst(flight, height) has no column site", "add", self.file, "burst: site -> flight")
-        self.failed("dependency:1:7: the name of a column was expected, not the end", "add", self.file, "burst:")
+        self.failed("dependency:1:7: the name of a column or '->' was expected, not the end", "add", self.file, "burst:")
         each = [f"flight: {a}, {b} -> number, sonde, site, launch" for a, b in itertools.combinations(["number", "sonde", "site", "launch"], 2)]
         self.failed(
             f"{self.file}: 13 functional dependencies are held, and 20 more would make 33; there may be 32, and each column on the right counts one",

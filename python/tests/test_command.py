@@ -317,7 +317,7 @@ class Messages(Command):
         for arguments in (
             [], ["shorten"], ["list"], ["list", FLIGHTS, FLIGHTS], ["list", "--yaml", FLIGHTS], ["pack", "a"],
             ["compare", FLIGHTS, 0], ["compare", FLIGHTS, 0, "x"], ["compare", FLIGHTS, 0, -1],
-            ["compare", FLIGHTS, 0, "\u0663"], ["evaluate", FLIGHTS, "", DATA], ["determined", FLIGHTS, "burst"],
+            ["compare", FLIGHTS, 0, "\u0663"], ["evaluate", FLIGHTS, "", DATA], ["determined", FLIGHTS],
             ["evaluate", FLIGHTS, 0, DATA, "--count", "--format", "csv"], ["drop", FLIGHTS, 0, "-o", ""], ["page", FLIGHTS, "-o", ""],
             ["pack", FLIGHTS, ""], ["unpack", FLIGHTS, ""],
         ):

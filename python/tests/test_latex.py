@@ -134,6 +134,9 @@ class Documents(unittest.TestCase):
         strange = define_query(record, names, query, {0: NASTY, 1: "y_1"}, values.__getitem__)
         rng = random.Random(5)
         found = [strange, *define_all(self.record, self.names)]
+        station = Record.read(context.SAMPLES / "station.text")
+        found += define_all(station, station.names)
+        self.assertIn(r"$\emptyset$", latex.archive(found))
         for _ in range(6):
             other = context.random_record(rng, most_joins=4)
             found += define_all(other, Names.default(other.widths))

@@ -151,6 +151,17 @@ class Listings(Program):
                 "place 0 rows 11 kept 11 replaced 0", f"head {head}", *[f"row {row}" for row in rows], "map v0=v0 v1=v1 v9=v9 v10=v10",
             )
 
+    def test_a_column_that_never_varies(self):
+        """A dependency of three zero bytes is one: the first column of relation 0."""
+        query = part("v0 v2", "0 v0 v1", "0 v2 v3")
+        one = "place 0 rows 2 kept 1 replaced 1", "head v0 v0", "row 0 v0 v1", "map v0=v0 v1=v1 v2=v0 v3=v1"
+        self.lines(file(R, bytes([1, 0, 0, 0]), query), *one)
+        self.lines(file(R, bytes([2, 0, 0, 0, 0, 0, 0]), query), *one)
+        self.lines(
+            file(R, NONE, query), "place 0 rows 2 kept 2 replaced 0", "head v0 v2", "row 0 v0 v1", "row 0 v2 v3", "map v0=v0 v1=v1 v2=v2 v3=v3"
+        )
+        self.lines(file(R, bytes([1, 0, 0, 0]), part("", "0 3 v0", "0 4 v1")), "place 0 rows 2 never replaced 0")
+
     def test_join_dependencies(self):
         """They change nothing in a listing."""
         repeated = part("v0", "0 v0 v1", "0 v0 v1", "0 v2 v3")
@@ -199,8 +210,8 @@ class Refused(Program):
         self.each(3, *[file(one, NONE) for one in parts])
 
     def test_4(self):
-        dependencies = bytes([1, 1, 1, 0]), bytes([1, 0, 0, 0]), bytes([1, 0, 4, 0]), bytes([1, 0, 1, 2]), bytes([1, 0, 128, 0])
-        lengths = b"", b"\x01", bytes([1, 0, 1]), bytes([2, 0, 1, 1])
+        dependencies = bytes([1, 1, 1, 0]), bytes([1, 1, 0, 0]), bytes([1, 0, 4, 0]), bytes([1, 0, 1, 2]), bytes([1, 0, 0, 2]), bytes([1, 0, 128, 0])
+        lengths = b"", b"\x01", bytes([1, 0, 1]), bytes([1, 0, 0]), bytes([2, 0, 1, 1]), bytes([2, 0, 0, 0])
         self.each(4, *[file(R, one) for one in dependencies + lengths], file(R, bytes([33] + [0, 1, 1] * 33)))
 
     def test_15(self):
