@@ -1,8 +1,8 @@
 -- What a caller of the chase has to show, from the rule for the record: good relations, dependencies and tableau. Assumes nothing.
 use mathlib.Core.Path.{◌≡◌, refl}
-use mathlib.Core.Bool.{true, ◌&&◌}
+use mathlib.Core.Bool.{true}
 use mathlib.Core.List.{List}
-use Prim.Native.Nat.{ℕ, ◌^◌, ◌≤◌, ◌<◌}
+use Prim.Native.Nat.{ℕ, ◌≤◌}
 use native.Mathlib.Omega.{arith}
 use borrow.Author.Tests.{leb-true, ltb-true, lt-ltb}
 use lib.Dec.{leb, ltb}
@@ -11,11 +11,11 @@ use Rattle.query.specs.Types.{Tableau}
 use Rattle.query.specs.declared.Dependency.{Dependency}
 use Rattle.query.specs.View.{as_query}
 use Rattle.lists.specs.Tests.{every, between, is_zero, in_use}
-use Rattle.query.specs.Rule.{blank_dependency, good_relations, good_set, good_dependency, good_dependencies, good_tableau, no_dependency}
+use Rattle.query.specs.Rule.{blank_dependency, good_relations, good_dependency, good_dependencies, good_tableau, no_dependency}
 use Rattle.first_step.specs.internal.Wide.{Chasable}
 use Rattle.lists.proofs.Tests.{every-get_or, every-weaken, used-good}
 use Rattle.lists.proofs.Positions.{every-get_or-else}
-use Rattle.query.proofs.Good.{good-query}
+use Rattle.query.proofs.Good.{good-query, good-dependency}
 use Rattle.query.proofs.Stored.{all-cells}
 use Rattle.lists.proofs.Tests.{and_left, and_right}
 
@@ -38,17 +38,7 @@ width-le schema widths r =
 
 -- The right column of a good dependency is below 8
 good_right : (schema : List ℕ) → every (between 1 8) schema ≡ true → (d : Dependency) → good_dependency schema d ≡ true → ltb d.right 8 ≡ true
-unfolding good_dependency good_set
-good_right schema widths d good =
-    let right : d.right < get_or schema d.relation 0
-    = ltb-true
-    d.right
-    (get_or schema d.relation 0)
-    (and_right
-    (ltb d.relation (length schema) && ltb d.left (2 ^ get_or schema d.relation 0))
-    (ltb d.right (get_or schema d.relation 0))
-    good) in
-    lt-ltb d.right 8 (omega (arith, width-le schema widths d.relation))
+good_right schema widths d good = lt-ltb d.right 8 (omega (arith, width-le schema widths d.relation, (good-dependency schema d good).right))
 
 -- The dependencies that are held are good
 pub held-good : (schema : List ℕ) (held : ℕ) (dependencies : List Dependency) → good_dependencies schema held dependencies ≡ true

@@ -1,12 +1,14 @@
 -- What it tells that a query or a dependency passes the rule's test: its parts, each by name.
 -- What these parts mean for the theory's queries and dependencies is in `Stored`.
 use mathlib.Core.Path.{◌≡◌}
-use mathlib.Core.Bool.{Bool, true, not, ◌&&◌}
+use mathlib.Core.Bool.{Bool, true, ◌&&◌}
 use mathlib.Core.List.{List}
 use Prim.Native.Nat.{ℕ, ◌*◌, ◌^◌, ◌≤◌, ◌<◌}
-use lib.Dec.{eqb, ltb, leb}
+use lib.Dec.{leb}
 use lib.ListN.{length, take, drop, get_or}
-use borrow.Author.Tests.{leb-true, ltb-true, le-leb}
+use borrow.Author.Tests.{leb-true, le-leb}
+use native.Mathlib.Omega.{arith}
+use Rattle.std.proofs.lemmas.Bool.Decides.{nat_tests}
 use Rattle.query.specs.Types.{Query}
 use Rattle.query.specs.declared.Dependency.{Dependency}
 use Rattle.query.specs.declared.JoinDependency.{JoinDependency}
@@ -61,18 +63,12 @@ pub record GoodSet (schema : List ℕ) (relation left : ℕ) : Type 0 where
 
 pub good-set : (schema : List ℕ) (relation left : ℕ) → good_set schema relation left ≡ true → GoodSet schema relation left
 unfolding good_set
-good-set schema relation left e =
-    let a : Bool = ltb relation (length schema) in
-    let f : Bool = ltb left (2 ^ get_or schema relation 0) in
-    record {
-      relation-known = ltb-true _ _ (and_left a f e);
-      within = ltb-true _ _ (and_right a f e);
-    }
+good-set schema relation left e = record { relation-known = grind (arith, nat_tests, e); within = grind (arith, nat_tests, e) }
 
 -- A set of a join dependency is one
 pub good-join-set : (schema : List ℕ) (relation set : ℕ) → good_join_set schema relation set ≡ true → GoodSet schema relation set
 unfolding good_join_set
-good-join-set schema relation set e = good-set schema relation set (and_left (good_set schema relation set) (not (eqb set 0)) e)
+good-join-set schema relation set e = good-set schema relation set (grind (arith, nat_tests, e))
 
 -- A dependency that refusal 4 passes
 pub record GoodDependency (schema : List ℕ) (d : Dependency) : Type 0 where
@@ -83,15 +79,7 @@ pub record GoodDependency (schema : List ℕ) (d : Dependency) : Type 0 where
 pub good-dependency : (schema : List ℕ) (d : Dependency) → good_dependency schema d ≡ true → GoodDependency schema d
 unfolding good_dependency good_set
 good-dependency schema d e =
-    let a : Bool = ltb d.relation (length schema) in
-    let f : Bool = ltb d.left (2 ^ get_or schema d.relation 0) in
-    let g : Bool = ltb d.right (get_or schema d.relation 0) in
-    let e2 : a && f ≡ true = and_left (a && f) g e in
-    record {
-      relation = ltb-true _ _ (and_left a f e2);
-      left = ltb-true _ _ (and_right a f e2);
-      right = ltb-true _ _ (and_right (a && f) g e);
-    }
+    record { relation = grind (arith, nat_tests, e); left = grind (arith, nat_tests, e); right = grind (arith, nat_tests, e) }
 
 -- A join dependency that refusal 15 passes
 pub record GoodJoin (schema : List ℕ) (j : JoinDependency) : Type 0 where
@@ -103,15 +91,9 @@ pub record GoodJoin (schema : List ℕ) (j : JoinDependency) : Type 0 where
 pub good-join : (schema : List ℕ) (j : JoinDependency) → good_join schema j ≡ true → GoodJoin schema j
 unfolding good_join
 good-join schema j e =
-    let low : Bool = leb 2 j.count in
-    let high : Bool = leb j.count 4 in
-    let b : Bool = in_use j.count (good_join_set schema j.relation) is_zero j.sets in
-    let d : Bool = covers_columns schema j in
-    let e2 : (low && high) && b ≡ true = and_left ((low && high) && b) d e in
-    let e1 : low && high ≡ true = and_left (low && high) b e2 in
     record {
-      least = leb-true _ _ (and_left low high e1);
-      most = leb-true _ _ (and_right low high e1);
-      sets = and_right (low && high) b e2;
-      covers = and_right ((low && high) && b) d e;
+      least = grind (arith, nat_tests, e);
+      most = grind (arith, nat_tests, e);
+      sets = grind (arith, nat_tests, e);
+      covers = grind (arith, nat_tests, e);
     }
