@@ -24,7 +24,7 @@ DeterminedUnique =
     → (cs : List ℕ) → Increasing cs → ((c : ℕ) → (c ∈ cs) ↔ Determined widths ds relation left c)
     → cs ≡ determined ds relation (get_or widths relation 0) left
 
--- The empty set determines the columns that never vary, in any legal database
+-- The empty set determines a column exactly when the column never varies in every legal database
 abbrev pub DeterminedByNone : Type 0
 DeterminedByNone =
     (widths : List ℕ) (ds : List Dependency) (relation c : ℕ)

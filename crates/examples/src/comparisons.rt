@@ -54,7 +54,8 @@ fn compare_two(rt: &impl Print, r: Record, p: usize, q: usize) -> io::Result<()>
     comparison(rt, comparison::compare(r, p, q))
 }
 
-// Each pair in which the join dependency tells: a row that it asks for, 16 rows from 4, and a 25th row. A column that never varies tells in the first two.
+// Five pairs. The join dependency tells in (0, 1), (2, 4) and (3, 4): a row that it asks for, 16 rows from 4, and a 25th row. A column that never varies
+// tells in (0, 1).
 fn compare_joined(rt: &impl Print, r: Record) -> io::Result<()> {
     for (p, q) in [(0, 1), (1, 0), (2, 4), (3, 4), (4, 3)] {
         compare_two(rt, r, p, q)?;

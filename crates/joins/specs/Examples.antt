@@ -88,8 +88,8 @@ abbrev S·a→b : Dependency
 S·a→b = record { relation = 1; left = 0 ∷ []; right = 1 }
 
 -- a never varies in S
-abbrev pub S·a : Dependency
-S·a = record { relation = 1; left = []; right = 0 }
+abbrev S·∅→a : Dependency
+S·∅→a = record { relation = 1; left = []; right = 0 }
 
 -- a and b determine c in S
 abbrev S·ab→c : Dependency
@@ -194,7 +194,7 @@ both =
     ∷ chases_to (S·ab→c ∷ []) (S·ab·ac ∷ []) 24 (query (v 0 ∷ []) (S (v 0) (v 1) (k 3) ∷ S (v 0) (v 2) (k 4) ∷ [])) (chased (query (k 0 ∷ []) []))
     ∷ chases_to (S·ab→c ∷ []) (S·ab·ac ∷ R·a·b ∷ []) 24 (query (k 0 ∷ k 0 ∷ []) []) (chased (query (k 0 ∷ k 0 ∷ []) []))
     -- a column that never varies makes the join a product of the other two
-    ∷ chases_to (S·a ∷ []) (S·ab·ac ∷ []) 24 (query [] (S (v 0) (v 1) (v 2) ∷ S (v 3) (v 4) (v 5) ∷ []))
+    ∷ chases_to (S·∅→a ∷ []) (S·ab·ac ∷ []) 24 (query [] (S (v 0) (v 1) (v 2) ∷ S (v 3) (v 4) (v 5) ∷ []))
     (ends (S (v 0) (v 1) (v 2) ∷ S (v 0) (v 4) (v 5) ∷ S (v 0) (v 1) (v 5) ∷ S (v 0) (v 4) (v 2) ∷ []))
     -- a join dependency alone: two queries that it makes equivalent
     ∷ compares [] (S·ab·ac ∷ []) crossed straight true

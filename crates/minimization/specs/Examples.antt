@@ -272,7 +272,7 @@ kept_rows =
     ∷ keeps R·a→b (query [] (R (v 0) (k 3) ∷ R (v 0) (k 4) ∷ [])) []
     ∷ []
 
--- Two flights and the sites they started from, say: head v0, v3 with R(v0,v1), R(v2,v3)
+-- A flight and the site of a flight, say: head v0, v3 with R(v0,v1), R(v2,v3)
 abbrev pub two_rows : Query
 two_rows = query (v 0 ∷ v 3 ∷ []) (R (v 0) (v 1) ∷ R (v 2) (v 3) ∷ [])
 

@@ -60,7 +60,7 @@ good_dependencies schema held dependencies = leb held 32 && in_use held (good_de
 abbrev pub covers_columns : List ℕ → JoinDependency → Bool
 covers_columns schema j = theory.subset (numbers_where (λ c. true) 0 (get_or schema j.relation 0)) (flatten (join_of j).sets)
 
--- A set of a join dependency is a nonempty set of its relation's columns
+-- A known relation and a nonempty set of its columns: what refusal 15 asks of each set of a join dependency
 unfoldable pub good_join_set : List ℕ → ℕ → ℕ → Bool
 good_join_set schema relation set = good_set schema relation set && not (eqb set 0)
 

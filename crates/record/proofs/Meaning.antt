@@ -1,62 +1,102 @@
 -- What the calls' equations come to: the statements of `specs/Meaning`. Assumes nothing.
-use mathlib.Core.Path.{◌≡◌, refl}
-use mathlib.Core.Bool.{Bool, true, not}
-use mathlib.Core.List.{[], ◌∷◌}
+use mathlib.Core.Path.{◌≡◌, refl, ap, ◌∙◌}
+use mathlib.Core.Bool.{Bool, true, false, not}
+use mathlib.Core.List.{List, [], ◌∷◌, ◌++◌, map, map-append}
 use mathlib.Core.Option.{Option, none, some}
-use Prim.Native.Nat.{ℕ}
+use Prim.Native.Nat.{ℕ, ◌+◌, ◌<◌}
+use native.Mathlib.Numerals.{add-one}
 use native.Mathlib.Omega.{arith}
+use lib.ListN.{length, take, set}
+use lib.Seq.{take-suc-set}
 use lib.Dec.{eqb}
 use borrow.Author.Tests.{eqb-false, not-false}
+use Rattle.query.specs.declared.Dependency.{Dependency}
+use Rattle.query.specs.declared.JoinDependency.{JoinDependency}
+use Rattle.query.specs.View.{dependency_of, join_of}
 use Rattle.query.specs.Rule.{good_dependency, good_join, good_query, head_safe, place_with}
 use Rattle.refusals.specs.Refusals.{first_holding, gives}
 use Rattle.refusals.proofs.Refusals.{none-holds, refused-gives}
 use Rattle.record.specs.declared.Record.{Record}
-use Rattle.record.specs.View.{schema_of}
+use Rattle.record.specs.View.{schema_of, dependencies_of, joins_of}
 use Rattle.record.specs.Rule.{good_record}
-use Rattle.record.specs.Calls.{concluded, broken_record, unknown_place, filled, with_place, with_dependency, with_join, add_dependency, add_join, put_query}
-use Rattle.record.specs.Meaning.{AddKeeps, AddJoinKeeps, PutKeeps}
+use Rattle.record.specs.Calls.{concluded, broken_record, unknown_place, filled, with_place, with_dependency, with_join, add_conditions, add_dependency, add_join_conditions, add_join, put_query}
+use Rattle.record.specs.Meaning.{AddKeeps, AddHolds, AddJoinKeeps, AddJoinHolds, PutKeeps}
 use Rattle.record.proofs.Good.{good-record}
 use Rattle.record.proofs.Kept.{filled-place, place_kept, dependency-kept, join_kept}
 
--- ---- accepted calls keep the rule
+-- ---- accepted calls keep the rule, and what is added is held
+
+-- One element more is in use, after those that were
+one-more : {A B : Type 0} (f : A → B) (xs : List A) (n : ℕ) (x : A) → n < length xs → map f (take (n + 1) (set xs n x)) ≡ map f (take n xs) ++ f x ∷ []
+one-more f xs n x h = ap (λ k. map f (take k (set xs n x))) (add-one n) ∙ ap (map f) (take-suc-set xs n x h) ∙ map-append f (take n xs) (x ∷ [])
 
 -- What holds of the record after an accepted call holds of the call's outcome
-pub accepted : (o : Option ℕ) (given after : Record) → (concluded o given after).0 ≡ gives tt
-    → (o ≡ none → good_record after ≡ true) → good_record (concluded o given after).1 ≡ true
-accepted none given after e then = then refl
-accepted (some n) given after e then = absurd (refused-gives e)
+pub accepted : (P : Record → Type 0) (o : Option ℕ) (given after : Record) → (concluded o given after).0 ≡ gives tt
+    → (o ≡ none → P after) → P (concluded o given after).1
+accepted P none given after e then = then refl
+accepted P (some n) given after e then = absurd (refused-gives e)
 
--- Add a functional dependency
+-- A record that 14 passes
+abbrev pub Good : Record → Type 0
+Good r = good_record r ≡ true
+
+-- Add a functional dependency: where it is done the record is good, so is the dependency, and there is room
+module _ (r : Record) (d : Dependency) (clear : first_holding (add_conditions r d) ≡ none) where
+  past-14 : (not (good_record r) ≡ false) × (first_holding ((not (good_dependency (schema_of r) d), 4) ∷ (eqb r.held 32, 13) ∷ []) ≡ none)
+  past-14 = none-holds (not (good_record r)) 14 ((not (good_dependency (schema_of r) d), 4) ∷ (eqb r.held 32, 13) ∷ []) clear
+
+  past-4 : (not (good_dependency (schema_of r) d) ≡ false) × (first_holding ((eqb r.held 32, 13) ∷ []) ≡ none)
+  past-4 = none-holds (not (good_dependency (schema_of r) d)) 4 ((eqb r.held 32, 13) ∷ []) past-14.1
+
+  add-good : Good r
+  add-good = not-false (good_record r) past-14.0
+
+  add-fits : good_dependency (schema_of r) d ≡ true
+  add-fits = not-false (good_dependency (schema_of r) d) past-4.0
+
+  add-room : r.held < 32
+  add-room = let few = eqb-false r.held 32 (none-holds (eqb r.held 32) 13 [] past-4.1).0 in let most = (good-record r add-good).held in omega arith
+
 pub add-keeps : AddKeeps
 unfolding add_dependency
 add-keeps r d long e =
-    let fit : Bool = good_dependency (schema_of r) d in
-    let full : (Bool × ℕ) = (eqb r.held 32, 13) in
-    accepted (first_holding (broken_record r ∷ (not fit, 4) ∷ full ∷ [])) r (with_dependency r d) e
-    (λ clear.
-    let a = none-holds (not (good_record r)) 14 ((not fit, 4) ∷ full ∷ []) clear in
-    let b = none-holds (not fit) 4 (full ∷ []) a.1 in
-    let c = none-holds (eqb r.held 32) 13 [] b.1 in
-    let good : good_record r ≡ true = not-false (good_record r) a.0 in
-    let few : r.held ≡ 32 → ⊥ = eqb-false r.held 32 c.0 in
-    let most = (good-record r good).held in
-    dependency-kept r d good (not-false fit b.0) (omega arith) long)
+    accepted Good (first_holding (add_conditions r d)) r (with_dependency r d) e
+    (λ clear. dependency-kept r d (add-good r d clear) (add-fits r d clear) (add-room r d clear) long)
 
--- Add a join dependency
+pub add-holds : AddHolds
+unfolding add_dependency
+add-holds r d long e =
+    accepted (λ after. dependencies_of after ≡ dependencies_of r ++ dependency_of d ∷ []) (first_holding (add_conditions r d)) r (with_dependency r d) e
+    (λ clear. one-more dependency_of r.dependencies r.held d (omega (arith, add-room r d clear)))
+
+-- Add a join dependency: likewise
+module _ (r : Record) (j : JoinDependency) (clear : first_holding (add_join_conditions r j) ≡ none) where
+  join-past-14 : (not (good_record r) ≡ false) × (first_holding ((not (good_join (schema_of r) j), 15) ∷ (eqb r.joined 4, 16) ∷ []) ≡ none)
+  join-past-14 = none-holds (not (good_record r)) 14 ((not (good_join (schema_of r) j), 15) ∷ (eqb r.joined 4, 16) ∷ []) clear
+
+  join-past-15 : (not (good_join (schema_of r) j) ≡ false) × (first_holding ((eqb r.joined 4, 16) ∷ []) ≡ none)
+  join-past-15 = none-holds (not (good_join (schema_of r) j)) 15 ((eqb r.joined 4, 16) ∷ []) join-past-14.1
+
+  join-good : Good r
+  join-good = not-false (good_record r) join-past-14.0
+
+  join-fits : good_join (schema_of r) j ≡ true
+  join-fits = not-false (good_join (schema_of r) j) join-past-15.0
+
+  join-room : r.joined < 4
+  join-room = let few = eqb-false r.joined 4 (none-holds (eqb r.joined 4) 16 [] join-past-15.1).0 in let most = (good-record r join-good).joined in omega arith
+
 pub add-join-keeps : AddJoinKeeps
 unfolding add_join
 add-join-keeps r j long e =
-    let fit : Bool = good_join (schema_of r) j in
-    let full : (Bool × ℕ) = (eqb r.joined 4, 16) in
-    accepted (first_holding (broken_record r ∷ (not fit, 15) ∷ full ∷ [])) r (with_join r j) e
-    (λ clear.
-    let a = none-holds (not (good_record r)) 14 ((not fit, 15) ∷ full ∷ []) clear in
-    let b = none-holds (not fit) 15 (full ∷ []) a.1 in
-    let c = none-holds (eqb r.joined 4) 16 [] b.1 in
-    let good : good_record r ≡ true = not-false (good_record r) a.0 in
-    let few : r.joined ≡ 4 → ⊥ = eqb-false r.joined 4 c.0 in
-    let most = (good-record r good).joined in
-    join_kept r j good (not-false fit b.0) (omega arith) long)
+    accepted Good (first_holding (add_join_conditions r j)) r (with_join r j) e
+    (λ clear. join_kept r j (join-good r j clear) (join-fits r j clear) (join-room r j clear) long)
+
+pub add-join-holds : AddJoinHolds
+unfolding add_join
+add-join-holds r j long e =
+    accepted (λ after. joins_of after ≡ joins_of r ++ join_of j ∷ []) (first_holding (add_join_conditions r j)) r (with_join r j) e
+    (λ clear. one-more join_of r.joins r.joined j (omega (arith, join-room r j clear)))
 
 -- Put a query
 pub put_keeps : PutKeeps
@@ -64,7 +104,7 @@ unfolding put_query
 put_keeps r place q e =
     let fit : Bool = good_query (schema_of r) q in
     let safe : Bool = head_safe (schema_of r) q in
-    accepted (first_holding (broken_record r ∷ unknown_place place ∷ (not fit, 5) ∷ (not safe, 6) ∷ filled r place ∷ [])) r
+    accepted Good (first_holding (broken_record r ∷ unknown_place place ∷ (not fit, 5) ∷ (not safe, 6) ∷ filled r place ∷ [])) r
     (with_place r place (place_with q)) e
     (λ clear.
     let a = none-holds (broken_record r).0 14 (unknown_place place ∷ (not fit, 5) ∷ (not safe, 6) ∷ filled r place ∷ []) clear in

@@ -31,7 +31,7 @@ use Rattle.record.specs.Calls.{broken_record, unknown_place, vacant, with_place}
 use Rattle.record.proofs.Stored.{narrow}
 use Rattle.record.proofs.Fitting.{dependencies-fit}
 use Rattle.record.proofs.Kept.{empty-place, place_kept}
-use Rattle.record.proofs.Meaning.{accepted}
+use Rattle.record.proofs.Meaning.{accepted, Good}
 use Rattle.record_calls.specs.Calls.{blank_record, empty_record, open_record, drop_query, determined_columns}
 use Rattle.record_calls.specs.Meaning.{OpenKeeps, DropKeeps, BlankBroken, DeterminedMeans}
 use Rattle.record_calls.proofs.Outcomes.{widths-judged, opened-good}
@@ -43,7 +43,7 @@ pub open-keeps : OpenKeeps
 unfolding open_record
 open-keeps widths e =
     let fit : Bool = between 1 8 (length widths) && every (between 1 8) widths in
-    accepted (first_holding ((not fit, 3) ∷ [])) blank_record (empty_record (length widths) (widths ++ replicate (8 - length widths) 0)) e
+    accepted Good (first_holding ((not fit, 3) ∷ [])) blank_record (empty_record (length widths) (widths ++ replicate (8 - length widths) 0)) e
     (λ clear.
     opened-good (length widths) (widths ++ replicate (8 - length widths) 0)
     (widths-judged widths (8 - length widths) ∙ not-false fit (none-holds (not fit) 3 [] clear).0))
@@ -52,7 +52,7 @@ open-keeps widths e =
 pub drop_keeps : DropKeeps
 unfolding drop_query
 drop_keeps r place e =
-    accepted (first_holding (broken_record r ∷ unknown_place place ∷ vacant r place ∷ [])) r (with_place r place no_place) e
+    accepted Good (first_holding (broken_record r ∷ unknown_place place ∷ vacant r place ∷ [])) r (with_place r place no_place) e
     (λ clear.
     place_kept r place no_place (not-false (good_record r) (none-holds (broken_record r).0 14 (unknown_place place ∷ vacant r place ∷ []) clear).0)
     (empty-place (schema_of r)))

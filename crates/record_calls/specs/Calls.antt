@@ -59,7 +59,7 @@ abbrev pub columns_reply : Result Columns Refusal → Reply (ℕ × ℕ)
 columns_reply (Ok columns) = gives (columns.set, columns.count)
 columns_reply (Err refusal) = refused (number_of refusal)
 
--- What a question about determined columns asks: 14; 4 unless the relation is known and the set, which may be empty, is one of its columns
+-- What a question about determined columns asks: 14; 4 unless the relation is known and what is asked about is a set of its columns, which may be empty
 abbrev pub determined_conditions : Record → ℕ → ℕ → List Condition
 determined_conditions r relation left = broken_record r ∷ (not (good_set (schema_of r) relation left), bad_dependency) ∷ []
 

@@ -133,7 +133,7 @@ fn dependencies() -> [Dependency; 9] {
     ]
 }
 
-// Add the dependency of each case. Where the record is good and holds fewer than 32, 4 is given for 2, 4, 5, 7 and 8.
+// Add the dependency of each case. Where the record is good, 4 is given for 2, 4, 5, 7 and 8; the others are added, or give 13 where 32 are held.
 fn adds(rt: &impl Print, r: Record) -> io::Result<()> {
     for (case, d) in dependencies().iter().enumerate() {
         print!(rt; "add {case}: ")?;
