@@ -108,7 +108,7 @@ fn choose(
 }
 
 // The first choice of rows for a join dependency that yields a row that is not there: their positions, 0 where there is no set.
-fn first_choice(
+pub fn first_choice(
     words: &[u32],
     schema: &[u8],
     j: JoinDependency,
@@ -125,27 +125,4 @@ fn first_choice(
     let c = join_lookup::position_of(words, schema, at[2]);
     let d = join_lookup::position_of(words, schema, at[3]);
     Some([a, b, c, d])
-}
-
-// The first of the held join dependencies that the rows do not obey, with its first choice of rows.
-pub fn first_unmet(
-    schema: &[u8],
-    words: &[u32],
-    joins: &[JoinDependency],
-    heads: &mut [u32],
-    nodes: &mut [u32],
-) -> Option<Violation>
-    requires { (k : ℕ) → k < length joins.now → Searchable schema.now words.now (get_or joins.now k no_join) }
-    ensures { result ≡ unmet_of (first_unmet_from 0 schema.now (map join_of joins.now) (database_of schema.now words.now)) }
-{
-    for (k, &j) in joins.iter().enumerate() {
-        let found = first_choice(words, schema, j, heads, nodes);
-        if let Some(rows) = found {
-            return Some(Violation::Join {
-                dependency: k,
-                rows,
-            });
-        }
-    }
-    None
 }
