@@ -8,11 +8,10 @@ use native.Mathlib.Omega.{arith}
 use lib.ListN.{length, get_or, set}
 use lib.Seq.{get_or-set_same, get_or-set_other}
 use Rattle.lists.proofs.Tests.{below-or-past}
-use Rattle.join_lookup.specs.internal.Starts.{start_of, Of}
-use Rattle.join_lookup.specs.internal.Tables.{bucket_at}
+use Rattle.join_lookup.specs.internal.Starts.{start_of, row_of, Of}
 use Rattle.join_lookup.proofs.Starting.{start-less}
 use Rattle.join_parts.specs.declared.Partition.{Partition}
-use Rattle.join_parts.specs.internal.Parts.{InPart, Last, Chained}
+use Rattle.join_parts.specs.internal.Parts.{part_of, InPart, Last, Chained}
 
 module _ (schema words : List ℕ) (x : Partition) where
   -- No row
@@ -48,7 +47,7 @@ module _ (schema words : List ℕ) (x : Partition) where
           }
 
       -- The row is at the head of its part's chain
-      pub chained-in : (of : Of schema words x.index p) (b : ℕ) → b ≡ bucket_at schema words x.index x.columns p → b < x.index.buckets
+      pub chained-in : (of : Of schema words x.index p) (b : ℕ) → b ≡ part_of x (row_of schema words p).values → b < x.index.buckets
           → x.index.buckets ≤ length heads → start_of schema words p < length links
           → Chained schema words x (suc p) (set heads b (start_of schema words p + 1)) (set links (start_of schema words p) (get_or heads b 0))
       chained-in of b is low room inside = record { head = λ d hd. go d hd (ℕ_discrete d b); link = linked }
@@ -80,7 +79,7 @@ module _ (schema words : List ℕ) (x : Partition) where
               (c.link q less d in_part))
               (λ past.
               let e : p ≡ q = omega arith in
-              let d_is : b ≡ d = is ∙ ap (bucket_at schema words x.index x.columns) e ∙ in_part.1 in
+              let d_is : b ≡ d = is ∙ ap (λ (n : ℕ). part_of x (row_of schema words n).values) e ∙ in_part.1 in
               subst (λ (n : ℕ). Last schema words x d n (get_or (set links (start_of schema words p) (get_or heads b 0)) (start_of schema words n) 0)) e
               (subst (Last schema words x d p) (sym (get_or-set_same links (start_of schema words p) (get_or heads b 0) 0 inside))
               (subst (λ (n : ℕ). Last schema words x n p (get_or heads b 0)) d_is (c.head b low))))

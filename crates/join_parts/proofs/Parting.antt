@@ -4,11 +4,9 @@ use mathlib.Core.Path.{◌≡◌, refl, sym, ◌∙◌, ap}
 use mathlib.Core.List.Memᴰ
 use mathlib.Core.List.{List, []}
 use mathlib.Core.Option.{none}
-use Prim.Native.Nat.{ℕ, ◌*◌, ◌/◌, ◌%◌, ◌<◌}
-use native.Mathlib.Nat.{mod-lt, mul-lt-mul_of_pos_right, div-lt_iff_lt-mul}
-use native.Mathlib.Omega.{arith}
-use lib.ListN.{length, take, get_or}
-use lib.Seq.{take_all}
+use Prim.Native.Nat.{ℕ, ◌+◌, ◌*◌, ◌/◌, ◌%◌, ◌<◌}
+use native.Mathlib.Nat.{mod-lt}
+use lib.ListN.{length, get_or}
 use Rattle.lists.proofs.Positions.{in-get_or}
 use Rattle.theory.specs.Query.{Row, column, FitsSchema, ◌∈◌}
 use Rattle.theory.specs.Database.{Database, Agree}
@@ -16,25 +14,17 @@ use Rattle.query.specs.View.{join_of}
 use Rattle.query.specs.declared.JoinDependency.{JoinDependency}
 use Rattle.words.specs.Words.{database_of}
 use Rattle.words.proofs.Spelling.{rows-spelled}
+use Rattle.tables.specs.internal.Table.{mixed}
 use Rattle.joins.specs.Join.{InJoin, ObeysJoin}
 use Rattle.join_lookup.specs.internal.Starts.{row_count, row_of, Of, Known}
-use Rattle.join_lookup.specs.internal.Tables.{bucket_of}
-use Rattle.join_lookup.proofs.Reaching.{bucket-same}
+use Rattle.join_lookup.proofs.Bits.{bit-column}
+use Rattle.join_lookup.proofs.Reaching.{mixed-same}
+use Rattle.join_lookup.proofs.Starting.{of_length}
 use Rattle.join_tables.specs.internal.Indexed.{Searchable}
 use Rattle.join_testing.specs.Unmet.{first_choice}
 use Rattle.join_testing.proofs.Choosing.{none-breaks, unbroken-none, obeys-unbroken, unbroken-obeys}
 use Rattle.join_parts.specs.declared.Partition.{Partition}
-use Rattle.join_parts.specs.internal.Parts.{SharedBy, InPart, PartOf, PartObeys}
-
--- A bucket is one of so many
-bucket-below : (n columns : ℕ) (values : List ℕ) → 0 < n → bucket_of n columns values < n
-bucket-below n columns values some = go _
-  where
-    go : (m : ℕ) → ((m * 2654435769) % 4294967296 * n) / 4294967296 < n
-    go m =
-        let low : (m * 2654435769) % 4294967296 < 4294967296 = mod-lt (m * 2654435769) {m = 4294967296} (omega arith) in
-        let less : (m * 2654435769) % 4294967296 * n < 4294967296 * n = mul-lt-mul_of_pos_right low some in
-        (div-lt_iff_lt-mul {k = 4294967296} (omega arith)).1 (omega (arith, less))
+use Rattle.join_parts.specs.internal.Parts.{SharedBy, part_of, InPart, PartOf, PartObeys}
 
 module _ (schema words : List ℕ) (j : JoinDependency) (x : Partition) (g : Searchable schema words j) (k : Known schema x.index)
     (of : x.index.relation ≡ j.relation) where
@@ -54,19 +44,19 @@ module _ (schema words : List ℕ) (j : JoinDependency) (x : Partition) (g : Sea
   module _ (some : 0 < x.index.buckets) (small : x.columns < 256) (shared : SharedBy j x.columns) where
     module _ (r : Row ℕ) (fits : FitsSchema schema r) (relation : r.relation ≡ j.relation) where
       abbrev part : ℕ
-      part = bucket_of x.index.buckets x.columns r.values
+      part = part_of x r.values
 
       -- A row that agrees with r on a set is in its part
       in-part : (set : List ℕ) → set ∈ (join_of j).sets → (p : ℕ) → p < row_count schema words → (row_of schema words p).relation ≡ j.relation
           → Agree 0 set (row_of schema words p) r → InPart schema words x part p
       in-part set at p h relation-p agree =
-          let wide : length r.values ≡ x.index.width = fits.1 ∙ ap (λ (n : ℕ). get_or schema n 0) (relation ∙ sym of) ∙ sym k.width in
-          let all : take x.index.width r.values ≡ r.values = take_all x.index.width r.values (omega (arith, wide)) in
-          let o : Of schema words x.index p = relation-p ∙ sym of in (
+          let o : Of schema words x.index p = relation-p ∙ sym of in
+          let size : length (row_of schema words p).values ≡ length r.values =
+          of_length schema words g.spelled x.index k p h o ∙ k.width ∙ ap (λ (n : ℕ). get_or schema n 0) (of ∙ sym relation) ∙ sym fits.1 in (
             o,
-            bucket-same schema words g.spelled x.index k x.columns r.values p small (omega (arith, wide)) h
-                (o, λ c there. agree c (shared set at c there) ∙ sym (ap (λ (v : List ℕ). get_or v c 0) all))
-                ∙ ap (bucket_of x.index.buckets x.columns) all,
+            ap (λ (m : ℕ). (m + m / x.index.buckets * 2654435761) % x.index.buckets)
+                (mixed-same 0 x.columns (row_of schema words p).values r.values size
+                (λ c low bit. agree c (shared set at c (bit-column x.columns c small bit)))),
           )
 
       -- so r is in the join of its part if it is in that of the whole
@@ -84,7 +74,7 @@ module _ (schema words : List ℕ) (j : JoinDependency) (x : Partition) (g : Sea
       λ there set at. (r, there, relation, λ c in_set. refl),
       λ joined.
           let b : ℕ = part r fits relation in
-          let p = part-obeys b (each b (bucket-below x.index.buckets x.columns r.values some)) in
+          let p = part-obeys b (each b (mod-lt (mixed 0 x.columns r.values + mixed 0 x.columns r.values / x.index.buckets * 2654435761) {m = x.index.buckets} some)) in
           p.1.rows r ((p.2 r fits relation).1 (in-join r fits relation p.0 p.1 joined)),
     )
 

@@ -19,6 +19,7 @@ use query::JoinDependency;
 use words::Violation;
 
 // A relation partitioned by the values in some columns, into as many parts as the index has buckets.
+// Kept as it is: a part is a bucket of `tables` and not of `join_lookup`, by which the rows of one part would share a bucket of its tables.
 #[derive(Clone, Copy)]
 pub struct Partition {
     pub index: Index,
@@ -59,7 +60,7 @@ fn link_row(
         return;
     }
     let values = tables::read_row(words, at, index.width);
-    let b = join_lookup::bucket(x.columns, values, index.width, index.buckets);
+    let b = tables::bucket(x.columns as u32, values, index.width, index.buckets);
     links[at] = heads[b];
     heads[b] = at as u32 + 1;
 }

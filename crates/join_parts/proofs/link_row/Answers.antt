@@ -5,10 +5,9 @@ use native.Mathlib.Omega.{arith}
 use lib.ListN.{length, take, drop, get_or, set}
 use Rattle.theory.specs.Query.{Row}
 use Rattle.join_lookup.specs.internal.Starts.{BeginsAt, row_of, row_with, Of}
-use Rattle.join_lookup.specs.internal.Tables.{bucket_of, bucket_at}
 use Rattle.join_lookup.proofs.Starting.{start-inside, start-relation, of_room}
 use Rattle.join_tables.proofs.Entering.{own_row}
-use Rattle.join_parts.specs.internal.Parts.{Chained}
+use Rattle.join_parts.specs.internal.Parts.{part_of, Chained}
 use Rattle.join_parts.proofs.Chaining.{chained-other, chained-in}
 use Rattle.join_parts.proofs.link_row.Goals as goal
 use Rattle.join_parts.proofs.link_row.Goals.{Start, Else-words-at, After-bucket-b}
@@ -25,15 +24,15 @@ of c p b =
     start-relation c.args.schema.now c.args.words.now c.requires.words_value.0 p b.1 ∙ ap (λ (n : ℕ). get_or c.args.words.now n 0) (sym b.0)
     ∙ c.if-words-at.false
 
--- Its bucket is that of its values
+-- Its part is that of its values
 bucketed : (c : After-bucket-b) (p : ℕ) → BeginsAt c.args.schema.now c.args.words.now c.args.at p → Of c.args.schema.now c.args.words.now c.args.x.index p
-    → c.bucket-b.result ≡ bucket_at c.args.schema.now c.args.words.now c.args.x.index c.args.x.columns p
+    → c.bucket-b.result ≡ part_of c.args.x (row_of c.args.schema.now c.args.words.now p).values
 bucketed c p b o =
     let a = c.args in
     let own : row_with a.x.index c.read_row-values.result ≡ row_of a.schema.now a.words.now p =
     own_row a.schema.now a.words.now c.requires.words_value.0 a.x.index c.requires.words_value.1 p b.1 o c.read_row-values.result
     (c.read_row-values.ensures ∙ ap (λ (n : ℕ). take a.x.index.width (drop (n + 1) a.words.now)) b.0) in
-    c.bucket-b.ensures.0 ∙ ap (λ (r : Row ℕ). bucket_of a.x.index.buckets a.x.columns r.values) own
+    c.bucket-b.ensures.0 ∙ ap (λ (r : Row ℕ). part_of a.x r.values) own
 
 pub offset_bounds-words-at : goal.offset_bounds-words-at
 offset_bounds-words-at c = omega (arith, inside (goal.at.offset_bounds-words-at c).Start, c.requires.room.2)

@@ -6,8 +6,8 @@ use Rattle.theory.specs.Query.{Row, ◌∈◌}
 use Rattle.query.specs.View.{columns_of, join_of}
 use Rattle.query.specs.declared.JoinDependency.{JoinDependency}
 use Rattle.words.specs.Words.{database_of, spells_rows}
+use Rattle.tables.specs.internal.Table.{bucket_of}
 use Rattle.join_lookup.specs.internal.Starts.{start_of, row_count, row_of, Of}
-use Rattle.join_lookup.specs.internal.Tables.{bucket_at}
 use Rattle.join_testing.specs.Unmet.{first_choice}
 use Rattle.join_parts.specs.declared.Partition.{Partition}
 
@@ -15,9 +15,13 @@ use Rattle.join_parts.specs.declared.Partition.{Partition}
 abbrev pub SharedBy : JoinDependency → ℕ → Type 0
 SharedBy j mask = (set : List ℕ) → set ∈ (join_of j).sets → (c : ℕ) → c ∈ columns_of mask → c ∈ set
 
+-- The part of a row with some values
+abbrev pub part_of : Partition → List ℕ → ℕ
+part_of x values = bucket_of x.index.buckets x.columns values
+
 -- The row at position p is in part b
 abbrev pub InPart : List ℕ → List ℕ → Partition → ℕ → ℕ → Type 0
-InPart schema words x b p = Of schema words x.index p × (bucket_at schema words x.index x.columns p ≡ b)
+InPart schema words x b p = Of schema words x.index p × (part_of x (row_of schema words p).values ≡ b)
 
 -- A link to the last of the first n rows, which is in part b; 0 where n is 0
 abbrev pub LinksTo : List ℕ → List ℕ → Partition → ℕ → ℕ → ℕ → Type 0
