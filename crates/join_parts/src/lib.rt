@@ -3,7 +3,7 @@
 // some part does not obey, or there are no parts, the whole is searched.
 #![tactic(auto)]
 
-ghost use Rattle.std.specs.Prelude.{◌≡◌, true, ℕ, suc, ◌+◌, ◌-◌, ◌*◌, ◌≤◌, ◌<◌, ◌++◌, length, map, take, drop, get_or};
+ghost use Rattle.std.specs.Prelude.{◌≡◌, true, ℕ, suc, ◌+◌, ◌-◌, ◌≤◌, ◌<◌, ◌++◌, length, map, take, drop, get_or};
 ghost use Rattle.std.proofs.Math.Option.{none};
 ghost use Rattle.query.specs.View.{join_of};
 ghost use Rattle.query.specs.Rule.{no_join};
@@ -137,6 +137,7 @@ fn each_obeys(
     for b in 0..x.index.buckets {
         let start = gather(words, schema, x, b, first, links, buffer);
         let part = &buffer[start..];
+        // without tables its search would be slow
         if nodes.len() / 6 < part.len() {
             return false;
         }
@@ -162,13 +163,10 @@ fn obeyed(
     let relation = j.relation as u32;
     let width = schema[j.relation as usize] as usize;
     let n = words.len();
+    // some 32 rows in a part, if all words are rows of the relation
     let buckets = n / (width + 1) / 32 + 1;
-    if columns == 0
-        || n < 65536
-        || 4294967295 <= n
-        || nodes.len() / 6 < n
-        || heads.len() < buckets
-    {
+    // below 65,536 words the tables of the whole stay in the cache; a link is below 2^32
+    if columns == 0 || n < 65536 || 4294967295 <= n || nodes.len() / 6 < n || heads.len() / 2 < n {
         return false;
     }
     let x = Partition {
