@@ -31,11 +31,7 @@ module _ (schema words : List ℕ) (j : JoinDependency) (x : Partition) (g : Sea
   abbrev D : Database
   D = database_of schema words
 
-  -- A part of the words is searched as the words are
-  pub part-searchable : (b : ℕ) (part : List ℕ) → PartOf schema words x b part → Searchable schema part j
-  part-searchable b part p =
-      record { spelled = p.spelled; fits = g.fits; shaped = g.shaped; few = g.few; small = g.small; narrow = g.narrow; within = g.within }
-
+  -- A part without a choice obeys
   part-obeys : (b : ℕ) → PartObeys schema words j x b → (part : List ℕ) × PartOf schema words x b part × ObeysJoin schema (join_of j) (database_of schema part)
   part-obeys b p =
       let sound = (rows-spelled schema p.0 p.1.spelled).1 in
