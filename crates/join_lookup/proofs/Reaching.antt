@@ -21,7 +21,7 @@ use Rattle.join_lookup.proofs.Bits.{BitOf, bit-column}
 
 -- ---- rows with the same values have the same bucket
 
-mixed-same : (h columns : ℕ) (xs ys : List ℕ) → length xs ≡ length ys → ((c : ℕ) → c < length xs → BitOf columns c → get_or xs c 0 ≡ get_or ys c 0)
+pub mixed-same : (h columns : ℕ) (xs ys : List ℕ) → length xs ≡ length ys → ((c : ℕ) → c < length xs → BitOf columns c → get_or xs c 0 ≡ get_or ys c 0)
     → mixed h columns xs ≡ mixed h columns ys
 unfolding mixed
 mixed-same h columns [] [] e same = refl

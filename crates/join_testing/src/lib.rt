@@ -1,20 +1,18 @@
-// The first of some join dependencies that rows do not obey, with its first choice of rows. The search goes through the sets of a join dependency, and for each
+// The first choice of rows that breaks a join dependency. The search goes through the sets of the join dependency, and for each
 // through the rows that agree with those chosen before where sets overlap; at the end it looks for the row that is yielded. Whether rows can be chosen for
 // some sets does not depend on their order: each next set is the one that shares most columns with those before it, so that no product of rows is gone
 // through where sets that come later tie them together.
 #![tactic(auto)]
 
-ghost use Rattle.std.specs.Prelude.{◌≡◌, ℕ, ◌+◌, ◌≤◌, ◌<◌, length, map, get_or};
+ghost use Rattle.std.specs.Prelude.{◌≡◌, ◌+◌, ◌≤◌, ◌<◌};
 ghost use Rattle.query.specs.View.{join_of};
-ghost use Rattle.query.specs.Rule.{no_join};
 ghost use Rattle.words.specs.Words.{database_of};
 ghost use Rattle.join_tables.specs.internal.Indexed.{filled_to, Searchable, Indexed};
-ghost use Rattle.join_testing.specs.Unmet.{first_choice, first_unmet_from, unmet_of};
+ghost use Rattle.join_testing.specs.Unmet.{first_choice};
 ghost use Rattle.join_testing.specs.internal.Search.{Searched, plainly, rows_chosen};
 
 use join_lookup::Index;
 use query::JoinDependency;
-use words::Violation;
 
 // What a search reads: the rows, the join dependency, and its tables.
 #[derive(Clone, Copy)]
@@ -108,7 +106,7 @@ fn choose(
 }
 
 // The first choice of rows for a join dependency that yields a row that is not there: their positions, 0 where there is no set.
-fn first_choice(
+pub fn first_choice(
     words: &[u32],
     schema: &[u8],
     j: JoinDependency,
@@ -125,27 +123,4 @@ fn first_choice(
     let c = join_lookup::position_of(words, schema, at[2]);
     let d = join_lookup::position_of(words, schema, at[3]);
     Some([a, b, c, d])
-}
-
-// The first of the held join dependencies that the rows do not obey, with its first choice of rows.
-pub fn first_unmet(
-    schema: &[u8],
-    words: &[u32],
-    joins: &[JoinDependency],
-    heads: &mut [u32],
-    nodes: &mut [u32],
-) -> Option<Violation>
-    requires { (k : ℕ) → k < length joins.now → Searchable schema.now words.now (get_or joins.now k no_join) }
-    ensures { result ≡ unmet_of (first_unmet_from 0 schema.now (map join_of joins.now) (database_of schema.now words.now)) }
-{
-    for (k, &j) in joins.iter().enumerate() {
-        let found = first_choice(words, schema, j, heads, nodes);
-        if let Some(rows) = found {
-            return Some(Violation::Join {
-                dependency: k,
-                rows,
-            });
-        }
-    }
-    None
 }

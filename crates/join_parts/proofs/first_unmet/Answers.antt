@@ -15,8 +15,8 @@ use Rattle.lists.proofs.Loops.{get_or_any}
 use Rattle.join_testing.specs.Unmet.{first_unmet_from, unmet_of}
 use Rattle.join_tables.specs.internal.Indexed.{Searchable}
 use Rattle.join_testing.proofs.Finding.{unmet-found, unmet-later, unmet-end}
-use Rattle.join_testing.proofs.first_unmet.Goals as goal
-use Rattle.join_testing.proofs.first_unmet.Goals.{In-loop-k}
+use Rattle.join_parts.proofs.first_unmet.Goals as goal
+use Rattle.join_parts.proofs.first_unmet.Goals.{In-loop-k}
 
 -- What an array that is read past its end gives
 

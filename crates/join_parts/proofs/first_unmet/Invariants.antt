@@ -6,7 +6,7 @@ use lib.ListN.{length, drop}
 use Rattle.query.specs.View.{join_of}
 use Rattle.words.specs.Words.{database_of}
 use Rattle.join_testing.specs.Unmet.{first_unmet_from}
-use Rattle.join_testing.proofs.first_unmet.Given as goal
+use Rattle.join_parts.proofs.first_unmet.Given as goal
 
 abbrev pub invariant-loop-k : goal.invariant-loop-k
 invariant-loop-k l = (first_unmet_from 0 l.schema (map join_of l.joins) (database_of l.schema l.words)

@@ -1,0 +1,2 @@
+-- What contracts of the functions cite.
+pub mod internal

@@ -1,0 +1,2 @@
+-- The parts of a relation.
+pub mod Parts
