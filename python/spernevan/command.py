@@ -144,7 +144,7 @@ def usage() -> Parser:
     made = on_file("list", list_command, "print each saved query, its short form, the mapping and the count, or definitions in LaTeX, SQL or JSON", functional)
     shaped(made, json_too=True)
     made = on_file("show", show_command, "print an archive as text, or some of its queries, or rules, with their short forms", functional)
-    made.add_argument("query", metavar="QUERY", nargs="*", type=place_or_rule, help=query)
+    made.add_argument("query", metavar="QUERY", nargs="*", default=[], type=place_or_rule, help=query)
     made.add_argument("--json", action="store_true", help=for_programs)
     for name, run, text in (
         ("compare", compare_command, "say whether each answer of P is an answer of Q on every database that obeys the dependencies"),
@@ -165,7 +165,7 @@ def usage() -> Parser:
     with_data(on_file("test", test_command, "say whether a database obeys the dependencies, functional and join dependencies"))
     made = on_file("determined", determined_command, "print the columns that some columns determine by the functional dependencies, or those that never vary")
     made.add_argument("table", metavar="TABLE", help="the name of a table")
-    made.add_argument("column", metavar="COLUMN", nargs="*", help="the name of a column of it; without any, the columns that never vary are printed")
+    made.add_argument("column", metavar="COLUMN", nargs="*", default=[], help="the name of a column of it; without any, the columns that never vary are printed")
     made = changing("reduce", reduce_command, "put the short form of a query into a vacant place", functional)
     made.add_argument("query", metavar="QUERY", type=place_or_rule, help=query)
     made.add_argument("target", metavar="PLACE", nargs="?", type=place, help="the vacant place, 0 to 7; without it, the first")

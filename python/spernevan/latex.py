@@ -189,8 +189,10 @@ def dependency(one: AnyDependency, names: Names) -> str:
 
     if isinstance(one, JoinDependency):
         return rf"{table_name(table.name)}:~$\bowtie$~{' '.join(f'({listed(columns)})' for columns in one.sets)}"
-    left = listed(one.left) or r"$\emptyset$"
-    return rf"{table_name(table.name)}: {left}~$\to$~{column_name(table.columns[one.right])}"
+    right = column_name(table.columns[one.right])
+    if not one.left:
+        return rf"{table_name(table.name)}: $\emptyset$~$\to$~{right} (never varies)"
+    return rf"{table_name(table.name)}: {listed(one.left)}~$\to$~{right}"
 
 
 def form(query: Query, definition: Definition) -> str:

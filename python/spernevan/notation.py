@@ -460,7 +460,9 @@ def read_dependencies(reader: Reader, names: Names) -> Sequence[AnyDependency]:
     if reader.next.text == "join" and (reader.then.kind == "(" or "join" not in names.tables[relation].columns):
         return [_read_join(reader, names, relation)]
     left = [] if reader.next.kind == "->" else _read_columns(reader, names, relation, "the name of a column or '->'")
-    reader.take("->", "',' or '->'")
+    arrow = reader.take("->", "',' or '->'")
+    if reader.next.line > arrow.line and (reader.next.kind == "number" or reader.then.kind in (":", "(")):
+        raise reader.error(arrow, "the name of a column was expected after '->'")
     right = _read_columns(reader, names, relation, "the name of a column")
     return [Dependency(relation, frozenset(left), column) for column in right]
 

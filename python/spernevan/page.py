@@ -154,8 +154,10 @@ def _schema(record: Record, names: Names) -> str:
 
 
 def _arrow(text: str) -> str:
-    """A dependency with an arrow, before which the empty set has its sign."""
-    return text.replace(": -> ", ": \u2205 -> ").replace(" -> ", " \u2192 ")
+    """A dependency with an arrow; where no column stands before it, with the sign of the empty set and what that says."""
+    if ": -> " in text:
+        text = text.replace(": -> ", ": \u2205 -> ") + " (never varies)"
+    return text.replace(" -> ", " \u2192 ")
 
 
 def _link(one: Definition) -> str:

@@ -371,6 +371,8 @@ class Record:
         as `add_join` does.
         """
         if isinstance(relation, str):
+            if left is not None or right is not None:
+                raise ValueError("a dependency in words stands alone; where columns are given the table is given by its number")
             return self.add_all(parse_dependencies(relation, self.names))
         if left is None or right is None:
             raise ValueError("a functional dependency has left columns, () for none, and a right column")

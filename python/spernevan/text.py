@@ -94,6 +94,8 @@ def pack(text: str, source: str = "text") -> Tuple[Record, Names]:
             table, key = read_keyed_table(reader, tables)
             tables.append(table)
             add(start, key_dependencies(len(tables) - 1, key, len(table.columns)))
+        elif start.kind == "name" and reader.then.kind == "->":
+            raise reader.error(reader.then, "':' was expected, not '->'")
         else:
             raise reader.expected("a line such as flight(number, sonde), flight: number -> sonde or 0: ans(f) :- ..")
         reader.line_ends()

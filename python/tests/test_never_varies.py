@@ -130,6 +130,8 @@ class Calls(unittest.TestCase):
         self.refused(15, record.add_join, 0, [[], [0, 1, 2]])
         with self.assertRaisesRegex(ValueError, r"a functional dependency has left columns, \(\) for none, and a right column"):
             record.add(0)
+        with self.assertRaisesRegex(ValueError, "a dependency in words stands alone"):
+            record.add("R0: -> a", (0,))
 
     def test_zeros_in_a_file(self):
         """A dependency of three zero bytes is one; only the count says how many are held."""
@@ -269,6 +271,19 @@ class Texts(unittest.TestCase):
         self.assertEqual(record.all_dependencies, (Dependency(0, (), 0), Dependency(0, (), 1), JoinDependency(0, ({0}, {1}))))
         self.assertEqual(pack(unpack(record, names))[0], record)
 
+    def test_mistakes_in_texts(self):
+        table = "flight(number, site)\n"
+        for text, message in (
+            (table + "flight -> site", "2:8: ':' was expected, not '->'"),
+            (table + "flight: ->\nflight: number -> site", "2:9: the name of a column was expected after '->'"),
+            (table + "flight: ->\n\n0: ans(f) :- flight(f, s)", "2:9: the name of a column was expected after '->'"),
+            (table + "flight: ->\nburst(flight)", "2:9: the name of a column was expected after '->'"),
+        ):
+            with self.subTest(text=text), self.assertRaises(NotationError) as caught:
+                pack(text)
+            self.assertTrue(str(caught.exception).endswith(message), str(caught.exception))
+        self.assertEqual(pack(table + "flight: ->\nsite\n")[0], pack(table + "flight: -> site\n")[0])
+
     def test_no_mark_is_no_key(self):
         self.assertEqual(pack("R(a, b)\n")[0].dependencies, ())
         self.assertEqual(pack("R(a, b)\nR: -> a\n")[0].dependencies, (Dependency(0, (), 0),))
@@ -317,6 +332,7 @@ class Commands(Command):
         self.failed("there is no table kite; there is flight, burst", "determined", text, "kite")
         said = " ".join(run("determined", "--help")[1].split())
         self.assertIn("FILE TABLE [COLUMN ...]", said)
+        self.assertIn("the following arguments are required: TABLE;", run("determined", text)[2])
         self.assertIn("without any, the columns that never vary", said)
 
     def test_test(self):
@@ -366,7 +382,7 @@ class Commands(Command):
         found = json.loads(self.done("define", STATION, 0, "--format", "json"))
         self.assertEqual(found["dependencies"], [{"table": "flight", "left": [], "right": "site"}])
         tex = self.done("define", STATION, 0, "--format", "latex")
-        self.assertIn(r"\textsf{flight}: $\emptyset$~$\to$~\textit{site}", tex)
+        self.assertIn(r"\textsf{flight}: $\emptyset$~$\to$~\textit{site} (never varies)", tex)
         self.assertIn("On every finite database that obeys these dependencies the two forms", tex)
         record = Record.read(STATION)
         self.assertEqual(latex.dependency(record.dependencies[0], record.names), r"\textsf{flight}: \textit{number}~$\to$~\textit{sonde}")
@@ -375,10 +391,10 @@ class Commands(Command):
     def test_page(self):
         text = self.done("page", STATION)
         self.assertIn("<li><code>flight: number \u2192 sonde</code></li>", text)
-        self.assertIn("<li><code>flight: \u2205 \u2192 site</code></li>", text)
-        self.assertIn("<dt>Dependencies needed</dt><dd><code>flight: \u2205 \u2192 site</code></dd>", text)
+        self.assertIn("<li><code>flight: \u2205 \u2192 site (never varies)</code></li>", text)
+        self.assertIn("<dt>Dependencies needed</dt><dd><code>flight: \u2205 \u2192 site (never varies)</code></dd>", text)
         record, names = pack("R(a, b)\nR: join (a) (b)\nR: -> a\n")
-        self.assertIn("<li><code>R: \u2205 \u2192 a</code></li><li><code>R: join (a) (b)</code></li>", page(record, names))
+        self.assertIn("<li><code>R: \u2205 \u2192 a (never varies)</code></li><li><code>R: join (a) (b)</code></li>", page(record, names))
 
 
 if __name__ == "__main__":

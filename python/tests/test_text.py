@@ -128,7 +128,7 @@ class Text(unittest.TestCase):
             (table + "ans() :- never", "2:1: a saved query has its place before it, as in 0: ans(.."),
             (table + "0: ans() :- flight(x, y) z", "2:26: the end of the line was expected, not 'z'"),
             (table + "0: ans(z) :- flight(x, y)", "2:8: z is in no row"),
-            (table + "flight -> sonde", "2:1: a line such as flight(number, sonde), flight: number -> sonde or 0: ans(f) :- .. was expected, not 'flight'"),
+            (table + "flight -> sonde", "2:8: ':' was expected, not '->'"),
             (table + "-> sonde", "2:1: a line such as flight(number, sonde), flight: number -> sonde or 0: ans(f) :- .. was expected, not '->'"),
             (table + "flight: number > sonde", "2:16: '>' has no meaning here; a rule has rows alone, joined by equal values, and no comparisons; a dep"),
             (table + "flight: number \u2192 sonde", "2:16: '\u2192' has no meaning here; '->' goes between the columns of a dependency"),
