@@ -307,9 +307,21 @@ static void compare_joins(uint32_t n) {
     compare("path of three rows", n, 1, "select distinct x.a, z.b from R0 x, R0 y, R0 z where x.b = y.a and y.b = z.a order by 1, 2");
 }
 
+// The rows of R0, of five columns, tested by both: no row of the queries' answers says that the dependencies are obeyed.
+static void compare_test(const char *what, uint32_t n, const char *tests) {
+    const int widths[] = {5};
+    int obeys;
+    size_t found;
+    double engine = engine_test(0, &obeys);
+    double plain = sqlite_all(widths, 1, 0, tests, 1, &found);
+    if ((found == 0) != obeys) fail("the verdicts differ");
+    double keyed = sqlite_all(widths, 1, 1, tests, 1, &found);
+    if ((found == 0) != obeys) fail("the verdicts differ");
+    line(what, n, obeys, engine, plain, keyed);
+}
+
 // Testing: one table of five columns, four dependencies, all obeyed; then the last row breaks the last one.
 static void compare_tests(uint32_t n) {
-    const int widths[] = {5};
     const char *tests = "select 1 from R0 group by a having min(b) <> max(b) limit 1;"
                         "select 1 from R0 group by a having min(c) <> max(c) limit 1;"
                         "select 1 from R0 group by b having min(d) <> max(d) limit 1;"
@@ -327,20 +339,12 @@ static void compare_tests(uint32_t n) {
             row(0, 5, (uint32_t[]){p[i], b, c, b * 3, b + c + (broken && i == n - 1)});
         }
         free(p);
-        int obeys;
-        size_t found;
-        double engine = engine_test(0, &obeys);
-        double plain = sqlite_all(widths, 1, 0, tests, 1, &found);
-        if ((found == 0) != obeys) fail("the verdicts differ");
-        double keyed = sqlite_all(widths, 1, 1, tests, 1, &found);
-        if ((found == 0) != obeys) fail("the verdicts differ");
-        line(broken ? "test, 4 dependencies, the last row breaks the last" : "test, 4 dependencies obeyed", n, obeys, engine, plain, keyed);
+        compare_test(broken ? "test, 4 dependencies, the last row breaks the last" : "test, 4 dependencies obeyed", n, tests);
     }
 }
 
 // Testing that a column never varies, on a table of five columns; then the last row differs.
 static void compare_unvarying(uint32_t n) {
-    const int widths[] = {5};
     const char *tests = "select 1 from (select min(e) low, max(e) high from R0) where low <> high";
     for (int broken = 0; broken < 2; broken++) {
         open_record((uint8_t[]){5}, 1);
@@ -349,14 +353,7 @@ static void compare_unvarying(uint32_t n) {
         uint32_t *p = shuffled(n);
         for (uint32_t i = 0; i < n; i++) row(0, 5, (uint32_t[]){p[i], p[i] % 7, p[i] % 11, p[i] % 13, 5 + (broken && i == n - 1)});
         free(p);
-        int obeys;
-        size_t found;
-        double engine = engine_test(0, &obeys);
-        double plain = sqlite_all(widths, 1, 0, tests, 1, &found);
-        if ((found == 0) != obeys) fail("the verdicts differ");
-        double keyed = sqlite_all(widths, 1, 1, tests, 1, &found);
-        if ((found == 0) != obeys) fail("the verdicts differ");
-        line(broken ? "test, a column that never varies, but in the last row" : "test, a column that never varies", n, obeys, engine, plain, keyed);
+        compare_test(broken ? "test, a column that never varies, but in the last row" : "test, a column that never varies", n, tests);
     }
 }
 

@@ -1,6 +1,6 @@
 -- What the calls' equations come to: the statements of `specs/Meaning`. Assumes nothing.
 use mathlib.Core.Path.{◌≡◌, refl, ap, ◌∙◌}
-use mathlib.Core.Bool.{Bool, true, false, not}
+use mathlib.Core.Bool.{Bool, true, not}
 use mathlib.Core.List.{List, [], ◌∷◌, ◌++◌, map, map-append}
 use mathlib.Core.Option.{Option, none, some}
 use Prim.Native.Nat.{ℕ, ◌+◌, ◌<◌}
@@ -40,63 +40,55 @@ accepted P (some n) given after e then = absurd (refused-gives e)
 abbrev pub Good : Record → Type 0
 Good r = good_record r ≡ true
 
--- Add a functional dependency: where it is done the record is good, so is the dependency, and there is room
+-- Where adding is done the record is good, what is added is good, and there is room
+addable : (good fit : Bool) (held most k l : ℕ) → first_holding ((not good, 14) ∷ (not fit, k) ∷ (eqb held most, l) ∷ []) ≡ none
+    → (good ≡ true) × (fit ≡ true) × (held ≡ most → ⊥)
+addable good fit held most k l clear =
+    let a = none-holds (not good) 14 ((not fit, k) ∷ (eqb held most, l) ∷ []) clear in
+    let b = none-holds (not fit) k ((eqb held most, l) ∷ []) a.1 in
+    (not-false good a.0, not-false fit b.0, eqb-false held most (none-holds (eqb held most) l [] b.1).0)
+
+-- Add a functional dependency
 module _ (r : Record) (d : Dependency) (clear : first_holding (add_conditions r d) ≡ none) where
-  past-14 : (not (good_record r) ≡ false) × (first_holding ((not (good_dependency (schema_of r) d), 4) ∷ (eqb r.held 32, 13) ∷ []) ≡ none)
-  past-14 = none-holds (not (good_record r)) 14 ((not (good_dependency (schema_of r) d), 4) ∷ (eqb r.held 32, 13) ∷ []) clear
-
-  past-4 : (not (good_dependency (schema_of r) d) ≡ false) × (first_holding ((eqb r.held 32, 13) ∷ []) ≡ none)
-  past-4 = none-holds (not (good_dependency (schema_of r) d)) 4 ((eqb r.held 32, 13) ∷ []) past-14.1
-
-  add-good : Good r
-  add-good = not-false (good_record r) past-14.0
-
-  add-fits : good_dependency (schema_of r) d ≡ true
-  add-fits = not-false (good_dependency (schema_of r) d) past-4.0
-
-  add-room : r.held < 32
-  add-room = let few = eqb-false r.held 32 (none-holds (eqb r.held 32) 13 [] past-4.1).0 in let most = (good-record r add-good).held in omega arith
+  may-add : Good r × (good_dependency (schema_of r) d ≡ true) × (r.held < 32)
+  may-add =
+      let may = addable (good_record r) (good_dependency (schema_of r) d) r.held 32 4 13 clear in
+      let few = may.2 in
+      let most = (good-record r may.0).held in
+      (may.0, may.1, omega arith)
 
 pub add-keeps : AddKeeps
 unfolding add_dependency
 add-keeps r d long e =
     accepted Good (first_holding (add_conditions r d)) r (with_dependency r d) e
-    (λ clear. dependency-kept r d (add-good r d clear) (add-fits r d clear) (add-room r d clear) long)
+    (λ clear. let may = may-add r d clear in dependency-kept r d may.0 may.1 may.2 long)
 
 pub add-holds : AddHolds
 unfolding add_dependency
 add-holds r d long e =
     accepted (λ after. dependencies_of after ≡ dependencies_of r ++ dependency_of d ∷ []) (first_holding (add_conditions r d)) r (with_dependency r d) e
-    (λ clear. one-more dependency_of r.dependencies r.held d (omega (arith, add-room r d clear)))
+    (λ clear. let room = (may-add r d clear).2 in one-more dependency_of r.dependencies r.held d (omega arith))
 
--- Add a join dependency: likewise
+-- Add a join dependency
 module _ (r : Record) (j : JoinDependency) (clear : first_holding (add_join_conditions r j) ≡ none) where
-  join-past-14 : (not (good_record r) ≡ false) × (first_holding ((not (good_join (schema_of r) j), 15) ∷ (eqb r.joined 4, 16) ∷ []) ≡ none)
-  join-past-14 = none-holds (not (good_record r)) 14 ((not (good_join (schema_of r) j), 15) ∷ (eqb r.joined 4, 16) ∷ []) clear
-
-  join-past-15 : (not (good_join (schema_of r) j) ≡ false) × (first_holding ((eqb r.joined 4, 16) ∷ []) ≡ none)
-  join-past-15 = none-holds (not (good_join (schema_of r) j)) 15 ((eqb r.joined 4, 16) ∷ []) join-past-14.1
-
-  join-good : Good r
-  join-good = not-false (good_record r) join-past-14.0
-
-  join-fits : good_join (schema_of r) j ≡ true
-  join-fits = not-false (good_join (schema_of r) j) join-past-15.0
-
-  join-room : r.joined < 4
-  join-room = let few = eqb-false r.joined 4 (none-holds (eqb r.joined 4) 16 [] join-past-15.1).0 in let most = (good-record r join-good).joined in omega arith
+  may-join : Good r × (good_join (schema_of r) j ≡ true) × (r.joined < 4)
+  may-join =
+      let may = addable (good_record r) (good_join (schema_of r) j) r.joined 4 15 16 clear in
+      let few = may.2 in
+      let most = (good-record r may.0).joined in
+      (may.0, may.1, omega arith)
 
 pub add-join-keeps : AddJoinKeeps
 unfolding add_join
 add-join-keeps r j long e =
     accepted Good (first_holding (add_join_conditions r j)) r (with_join r j) e
-    (λ clear. join_kept r j (join-good r j clear) (join-fits r j clear) (join-room r j clear) long)
+    (λ clear. let may = may-join r j clear in join_kept r j may.0 may.1 may.2 long)
 
 pub add-join-holds : AddJoinHolds
 unfolding add_join
 add-join-holds r j long e =
     accepted (λ after. joins_of after ≡ joins_of r ++ join_of j ∷ []) (first_holding (add_join_conditions r j)) r (with_join r j) e
-    (λ clear. one-more join_of r.joins r.joined j (omega (arith, join-room r j clear)))
+    (λ clear. let room = (may-join r j clear).2 in one-more join_of r.joins r.joined j (omega arith))
 
 -- Put a query
 pub put_keeps : PutKeeps
