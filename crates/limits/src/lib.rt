@@ -10,6 +10,7 @@ ghost use Rattle.limits.specs.internal.Entries.{names_variable, safe_cell};
 ghost use Rattle.limits.specs.internal.Answers.{AnswersAs};
 ghost use Rattle.query.specs.Rule.{blank_cell, blank_dependency, blank_query, good_relations, good_set, good_join_set, good_dependency, good_dependencies, good_cell, good_row, good_rows, good_query, head_safe, good_place};
 ghost use Rattle.query.specs.Rule.{blank_join, good_join, good_joins};
+ghost use Rattle.query.specs.Rule.{blank_pair, good_pair, apart, pair_fits, all_fit, good_codes};
 ghost use Rattle.limits.specs.internal.Schema.{widths_in};
 ghost use Rattle.lists.specs.Tests.{between, every, in_use, is_zero};
 ghost use Rattle.lists.specs.Numbers.{numbers_where};
@@ -17,8 +18,8 @@ ghost use Rattle.lists.specs.Numbers.{numbers_where};
 pub mod schema; // schema.rt: how many relations there are, and how many columns each has
 
 use query::{
-    Cell, Dependency, Entry, JoinDependency, NO_CELL, NO_DEPENDENCY, NO_JOIN_DEPENDENCY, Place,
-    Query,
+    Cell, CodePair, Dependency, Entry, JoinDependency, NO_CELL, NO_CODE_PAIR, NO_DEPENDENCY,
+    NO_JOIN_DEPENDENCY, Place, Query,
 };
 use schema::Schema;
 
@@ -89,6 +90,75 @@ pub fn relations_good(relations: u8, widths: [u8; 8]) -> bool
             |w| 1 <= *w && *w <= 8,
             |w| *w == 0,
         )
+}
+
+// ---- pairs of codes
+
+// Whether a pair of codes is that of a slot not in use.
+fn pair_blank(p: &CodePair) -> bool
+    ensures { result ≡ blank_pair p.now }
+{
+    *p == NO_CODE_PAIR
+}
+
+// Whether two pairs of codes may be held together.
+fn apart(p: CodePair, q: &CodePair) -> bool
+    ensures { result ≡ apart p q.now }
+{
+    p.old != q.old && p.old != q.current && p.current != q.old
+}
+
+// Whether a pair has two codes, which differ.
+fn pair_good(p: CodePair) -> bool
+    ensures { result ≡ good_pair p }
+{
+    p.old <= 2147483647 && p.current <= 2147483647 && p.old != p.current
+}
+
+// Whether a pair of codes may be held beside each of some others.
+fn apart_from(others: &[CodePair], p: CodePair) -> bool
+    ensures { result ≡ every (apart p) others.now }
+{
+    others.iter().all(|q| apart(p, q))
+}
+
+// Whether a pair of codes may be held beside some others: what refusal 18 asks.
+#[tactic(auto, using(std::proofs::lemmas::Bool::Decides::nat_tests), unfolding(query::specs::Rule::pair_fits))]
+pub fn pair_fits(others: &[CodePair], p: CodePair) -> bool
+    ensures { result ≡ pair_fits others.now p }
+{
+    pair_good(p) && apart_from(others, p)
+}
+
+// Whether each of some pairs of codes may be held beside those after it.
+fn all_fit(pairs: &[CodePair]) -> bool
+    ensures { result ≡ all_fit pairs.now }
+{
+    let mut rest = pairs;
+    while let Some((p, others)) = rest.split_first() {
+        if !pair_fits(others, *p) {
+            return false;
+        }
+        rest = others;
+    }
+    true
+}
+
+// Whether pairs of codes are those of slots not in use.
+fn pairs_blank(pairs: &[CodePair]) -> bool
+    ensures { result ≡ every blank_pair pairs.now }
+{
+    pairs.iter().all(pair_blank)
+}
+
+// Whether at most 16 pairs of codes are held, which may be held together, and no slot beyond them is in use.
+#[tactic(auto, using(std::proofs::lemmas::Bool::Decides::nat_tests), unfolding(query::specs::Rule::good_codes))]
+pub fn codes_good(coded: u8, codes: [CodePair; 16]) -> bool
+    ensures { result ≡ good_codes coded codes }
+{
+    coded <= 16
+        && all_fit(&codes[..coded as usize])
+        && pairs_blank(&codes[coded as usize..])
 }
 
 // ---- dependencies

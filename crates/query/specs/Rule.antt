@@ -1,4 +1,4 @@
--- The rule of relations, dependencies, queries and places as tests on the fields: what refusals 3, 4, 15, 5 and 6 judge, and 14 of a place.
+-- The rule of relations, dependencies, queries and places as tests on the fields: what refusals 3, 18, 4, 15, 5 and 6 judge, and 14 of a place.
 -- The lengths of the arrays are the types': `shaped_query`, `shaped_tableau` and `shaped_join` say them.
 use Rattle.std.specs.Prelude.{Bool, true, false, cond, not, ◌&&◌, ℕ, ◌*◌, ◌^◌, eqb, ltb, leb, length, take, drop, get_or, replicate}
 use mathlib.Core.List.{List, [], ◌∷◌, flatten}
@@ -9,6 +9,7 @@ use Rattle.query.specs.Types.{Query}
 use Rattle.query.specs.Types.{Tableau}
 use Rattle.query.specs.declared.Dependency.{Dependency}
 use Rattle.query.specs.declared.JoinDependency.{JoinDependency}
+use Rattle.query.specs.declared.CodePair.{CodePair}
 use Rattle.query.specs.declared.Place.{Place}
 use Rattle.query.specs.View.{query_of, as_query, join_of}
 use Rattle.theory.specs.Query as theory
@@ -34,6 +35,10 @@ blank_dependency d = is_zero d.relation && is_zero d.left && is_zero d.right
 abbrev pub blank_join : JoinDependency → Bool
 blank_join j = is_zero j.relation && is_zero j.count && every is_zero j.sets
 
+-- A pair of codes that is not in use is all 0
+abbrev pub blank_pair : CodePair → Bool
+blank_pair p = is_zero p.old && is_zero p.current
+
 -- A query that is not in use is all 0
 unfoldable pub blank_query : Query → Bool
 blank_query q = is_zero q.arity && is_zero q.size && every blank_cell q.head && every is_zero q.relations && every blank_cell q.cells
@@ -43,6 +48,27 @@ blank_query q = is_zero q.arity && is_zero q.size && every blank_cell q.head && 
 -- 1 to 8 relations, each of 1 to 8 columns
 unfoldable pub good_relations : ℕ → List ℕ → Bool
 good_relations relations widths = between 1 8 relations && in_use relations (between 1 8) is_zero widths
+
+-- Two codes, which differ
+abbrev pub good_pair : CodePair → Bool
+good_pair p = leb p.old 2147483647 && leb p.current 2147483647 && not (eqb p.old p.current)
+
+-- Two pairs of codes may be held together: the old code of neither stands in the other
+abbrev pub apart : CodePair → CodePair → Bool
+apart p q = not (eqb p.old q.old) && not (eqb p.old q.current) && not (eqb p.current q.old)
+
+-- A pair of codes may be held beside some others: what refusal 18 asks
+unfoldable pub pair_fits : List CodePair → CodePair → Bool
+pair_fits others p = good_pair p && every (apart p) others
+
+-- Each of some pairs of codes may be held beside those after it
+unfoldable pub all_fit : List CodePair → Bool
+all_fit [] = true
+all_fit (p ∷ ps) = pair_fits ps p && all_fit ps
+
+-- 0 to 16 pairs of codes
+unfoldable pub good_codes : ℕ → List CodePair → Bool
+good_codes coded pairs = leb coded 16 && all_fit (take coded pairs) && every blank_pair (drop coded pairs)
 
 -- A known relation and a set of its columns, which may be empty: what refusal 4 asks of a question about determined columns
 unfoldable pub good_set : List ℕ → ℕ → ℕ → Bool
@@ -155,6 +181,10 @@ no_dependency = record { relation = 0; left = 0; right = 0 }
 -- The join dependency of a slot that is not in use
 abbrev pub no_join : JoinDependency
 no_join = record { relation = 0; count = 0; sets = replicate 4 0 }
+
+-- The pair of codes of a slot that is not in use
+abbrev pub no_pair : CodePair
+no_pair = record { old = 0; current = 0 }
 
 -- The never query with a head of n entries
 abbrev pub never_query : ℕ → Query

@@ -8,8 +8,10 @@ use Rattle.query.specs.Types.{Query}
 use Rattle.query.specs.Types.{Tableau}
 use Rattle.query.specs.declared.Dependency.{Dependency}
 use Rattle.query.specs.declared.JoinDependency.{JoinDependency}
+use Rattle.query.specs.declared.CodePair.{CodePair}
 use Rattle.theory.specs.Query as theory
 use Rattle.theory.specs.Database as database
+use Rattle.theory.specs.Codes as codes
 
 -- The entry that an enum value stands for
 abbrev pub entry_of : Entry → theory.Entry
@@ -68,6 +70,14 @@ join_of j = record { relation = j.relation; sets = map columns_of (take j.count 
 -- The join dependencies that the first `held` of an array stand for
 abbrev pub held_joins : List JoinDependency → ℕ → List database.JoinDependency
 held_joins joins held = map join_of (take held joins)
+
+-- The pair of codes that a stored one stands for
+abbrev pub pair_of : CodePair → codes.CodePair
+pair_of p = record { old = p.old; current = p.current }
+
+-- The pairs of codes that the first `coded` of an array stand for
+abbrev pub held_codes : List CodePair → ℕ → List codes.CodePair
+held_codes pairs coded = map pair_of (take coded pairs)
 
 -- The assignment that an array of images gives: variable v goes to the entry at v, to constant 0 past the end
 abbrev pub images_of : List Cell → ℕ → theory.Entry

@@ -1,4 +1,4 @@
-// A stored query, a place for one, a query with room for more rows, and stored dependencies of both kinds: their types.
+// A stored query, a place for one, a query with room for more rows, stored dependencies of both kinds, and pairs of codes: their types.
 #![tactic(auto)]
 
 ghost use Rattle.std.specs.Prelude.{◌≡◌};
@@ -126,3 +126,13 @@ pub const NO_JOIN_DEPENDENCY: JoinDependency = JoinDependency {
     count: 0,
     sets: [0; 4],
 };
+
+// A code that was renumbered, and the one that it has now.
+#[derive(Clone, Copy, PartialEq, Eq)]
+pub struct CodePair {
+    pub old: u32,
+    pub current: u32,
+}
+
+// The pair of a slot that is not in use.
+pub const NO_CODE_PAIR: CodePair = CodePair { old: 0, current: 0 };

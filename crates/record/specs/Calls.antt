@@ -1,18 +1,21 @@
--- What adding a dependency and putting a query answer: what they ask, in the order of SPECIFICATION, Refusals, and the record after it. And what the other calls
+-- What adding a pair of codes or a dependency and putting a query answer: what they ask, in the order of SPECIFICATION, Refusals, and the record after it. And what the other calls
 -- share with them: what a call says, places, and the record with another content of one.
-use Rattle.std.specs.Prelude.{Bool, not, List, [], ◌∷◌, ℕ, ◌+◌, eqb, ltb, get_or, set}
+use Rattle.std.specs.Prelude.{Bool, not, List, [], ◌∷◌, ℕ, ◌+◌, eqb, ltb, take, get_or, set}
 use Rattle.std.proofs.Math.Option.{Option, none, some}
 use Rattle.theory.specs.Query as theory
+use Rattle.theory.specs.Codes.{read_query}
 use Rattle.query.specs.Types.{Query}
 use Rattle.query.specs.declared.Dependency.{Dependency}
 use Rattle.query.specs.declared.JoinDependency.{JoinDependency}
+use Rattle.query.specs.declared.CodePair.{CodePair}
 use Rattle.query.specs.declared.Place.{Place}
 use Rattle.record.specs.declared.Record.{Record}
 use Rattle.record.specs.declared.Outcome.{Outcome}
 use Rattle.query.specs.View.{query_of}
-use Rattle.record.specs.View.{schema_of}
-use Rattle.query.specs.Rule.{good_dependency, good_join, good_query, head_safe, no_place, place_with}
+use Rattle.record.specs.View.{schema_of, codes_of}
+use Rattle.query.specs.Rule.{pair_fits, good_dependency, good_join, good_query, head_safe, no_place, place_with}
 use Rattle.record.specs.Rule.{good_record}
+use Rattle.refusals.specs.Refusals.{bad_code, codes_full}
 use Rattle.refusals.specs.Refusals.{bad_dependency, bad_join, bad_query, bad_record, dependencies_full, joins_full}
 use Rattle.refusals.specs.Refusals.{Condition, first_holding, no_such_place, place_filled, place_vacant, unsafe_head}
 use Rattle.refusals.specs.Refusals.{Reply, refused, gives}
@@ -47,9 +50,9 @@ is_filled r place = (get_or r.places place no_place).filled
 abbrev pub stored_at : Record → ℕ → Query
 stored_at r place = (get_or r.places place no_place).query
 
--- The query that a place holds
+-- The query that a place holds, as it is read: each old code as its current one
 abbrev pub query_at : Record → ℕ → theory.Query
-query_at r place = query_of (schema_of r) (stored_at r place)
+query_at r place = read_query (codes_of r) (query_of (schema_of r) (stored_at r place))
 
 -- 11: the place to be read or dropped is vacant
 abbrev pub vacant : Record → ℕ → Condition
@@ -65,11 +68,28 @@ with_place r place p =
     record {
       relations = r.relations;
       widths = r.widths;
+      coded = r.coded;
+      codes = r.codes;
       held = r.held;
       dependencies = r.dependencies;
       joined = r.joined;
       joins = r.joins;
       places = set r.places place p;
+    }
+
+-- The record with one pair of codes more, after those held
+abbrev pub with_code : Record → CodePair → Record
+with_code r p =
+    record {
+      relations = r.relations;
+      widths = r.widths;
+      coded = r.coded + 1;
+      codes = set r.codes r.coded p;
+      held = r.held;
+      dependencies = r.dependencies;
+      joined = r.joined;
+      joins = r.joins;
+      places = r.places;
     }
 
 -- The record with one functional dependency more, after those held
@@ -78,6 +98,8 @@ with_dependency r d =
     record {
       relations = r.relations;
       widths = r.widths;
+      coded = r.coded;
+      codes = r.codes;
       held = r.held + 1;
       dependencies = set r.dependencies r.held d;
       joined = r.joined;
@@ -91,6 +113,8 @@ with_join r j =
     record {
       relations = r.relations;
       widths = r.widths;
+      coded = r.coded;
+      codes = r.codes;
       held = r.held;
       dependencies = r.dependencies;
       joined = r.joined + 1;
@@ -99,6 +123,14 @@ with_join r j =
     }
 
 -- ---- the calls
+
+-- What adding a pair of codes asks: 14; 18 unless it may be held beside those held; 19 where 16 are held
+abbrev pub add_code_conditions : Record → CodePair → List Condition
+add_code_conditions r p = broken_record r ∷ (not (pair_fits (take r.coded r.codes) p), bad_code) ∷ (eqb r.coded 16, codes_full) ∷ []
+
+-- Add a pair of codes after those held
+unfoldable pub add_code : Record → CodePair → Reply (Unit {0}) × Record
+add_code r p = concluded (first_holding (add_code_conditions r p)) r (with_code r p)
 
 -- What adding a functional dependency asks: 14; 4 unless it is good; 13 where 32 are held
 abbrev pub add_conditions : Record → Dependency → List Condition

@@ -1,14 +1,16 @@
-// Adding a dependency of either kind and putting a query, as methods: each takes the record by value and hands it back with the answer, unchanged where it
+// Adding a pair of codes or a dependency of either kind and putting a query, as methods: each takes the record by value and hands it back with the answer, unchanged where it
 // is refused. And what the other calls share: places looked up, a record with another content of a place.
-ghost use Rattle.std.specs.Prelude.{◌≡◌, ◌<◌};
+ghost use Rattle.std.specs.Prelude.{◌≡◌, ◌<◌, true};
 ghost use Rattle.std.proofs.Math.Option.{none, some};
 ghost use Rattle.query.specs.Rule.{no_place};
-ghost use Rattle.record.specs.Calls.{outcome_reply, concluded, stored_at, with_place, with_dependency, with_join, add_dependency, add_join, put_query};
+ghost use Rattle.query.specs.Stored.{stored_form};
+ghost use Rattle.record.specs.Rule.{good_record};
+ghost use Rattle.record.specs.Calls.{outcome_reply, concluded, is_filled, stored_at, query_at, with_place, with_code, with_dependency, with_join, add_code, add_dependency, add_join, put_query};
 ghost use Rattle.refusals.specs.Refusal.{number_of, reply_of};
 ghost use Rattle.record.specs.internal.Lookup.{place_at, filled_place, vacant_place};
 
 use crate::{Outcome, Record};
-use query::{Dependency, JoinDependency, Place, Query};
+use query::{CodePair, Dependency, JoinDependency, Place, Query};
 use refusals::Refusal;
 
 // A call is done.
@@ -72,6 +74,18 @@ pub fn with_place(given: Record, place: usize, p: Place) -> Record
     next
 }
 
+// The record with one pair of codes more, after those held.
+fn with_code(given: Record, p: CodePair) -> Record
+    requires { given.coded < 16 }
+    ensures { result ≡ with_code given p }
+{
+    let coded = given.coded;
+    let mut next = given;
+    next.codes[coded as usize] = p;
+    next.coded = coded + 1;
+    next
+}
+
 // The record with one functional dependency more, after those held.
 // Kept as it is: it differs from `with_join` in the two fields that it changes, and one function for both would have to be given both fields.
 fn with_dependency(given: Record, d: Dependency) -> Record
@@ -98,6 +112,14 @@ fn with_join(given: Record, j: JoinDependency) -> Record
 }
 
 impl Record {
+    // The query that a place holds, as it is read.
+    pub fn query(self, place: usize) -> Query
+        requires { (place < 8) × (good_record self ≡ true) × (is_filled self place ≡ true) }
+        ensures { result ≡ stored_form 12 (query_at self place) }
+    {
+        self.codes().read_query(self.schema(), stored(self, place))
+    }
+
     // The index of a place to be read or dropped, or 7, or 11.
     pub fn filled_place(self, place: usize) -> Result<usize, Refusal>
         ensures { reply_of result ≡ filled_place self place }
@@ -154,6 +176,23 @@ impl Record {
             query: q,
         };
         done(with_place(self, at, p))
+    }
+
+    // Add a pair of codes after those held.
+    pub fn add_code(self, p: CodePair) -> Outcome
+        ensures { outcome_reply result ≡ add_code self p }
+    {
+        let coded = self.coded;
+        if !self.is_good() {
+            return refused(Refusal::BadRecord, self);
+        }
+        if !limits::pair_fits(self.codes_held(), p) {
+            return refused(Refusal::BadCode, self);
+        }
+        if coded == 16 {
+            return refused(Refusal::CodesFull, self);
+        }
+        done(with_code(self, p))
     }
 
     // Add a functional dependency after those held.

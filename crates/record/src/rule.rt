@@ -2,11 +2,13 @@
 ghost use Rattle.std.specs.Prelude.{◌≡◌, ◌≤◌, true, take};
 ghost use Rattle.limits.specs.internal.Schema.{widths_in};
 ghost use Rattle.record.specs.Rule.{good_record};
-ghost use Rattle.record.specs.View.{schema_of};
+ghost use Rattle.record.specs.View.{schema_of, codes_of};
+ghost use Rattle.codes.specs.internal.Codes.{codes_in};
 
 use crate::Record;
+use codes::Codes;
 use limits::schema::Schema;
-use query::Dependency;
+use query::{CodePair, Dependency};
 
 impl Record {
     // Whether the record is as SPECIFICATION, The record, has it: what refusal 14 asks.
@@ -16,7 +18,8 @@ impl Record {
         let Some(schema) = Schema::new(self.relations, self.widths) else {
             return false;
         };
-        schema.dependencies_good(self.held, self.dependencies)
+        limits::codes_good(self.coded, self.codes)
+            && schema.dependencies_good(self.held, self.dependencies)
             && schema.joins_good(self.joined, self.joins)
             && schema.places_good(self.places)
     }
@@ -34,6 +37,22 @@ impl Record {
             relations: self.relations,
             widths,
         }
+    }
+
+    // The pairs of codes that are held.
+    pub fn codes_held(&self) -> &[CodePair]
+        requires { self.now.coded ≤ 16 }
+        ensures { result.now ≡ take self.now.coded self.now.codes }
+    {
+        &self.codes[..self.coded as usize]
+    }
+
+    // The pairs of codes that are held, made ready to read by.
+    pub fn codes(&self) -> Codes
+        requires { self.now.coded ≤ 16 }
+        ensures { codes_in result ≡ codes_of self.now }
+    {
+        Codes::new(self.codes_held())
     }
 
     // The functional dependencies that are held.

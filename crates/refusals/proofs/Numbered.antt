@@ -22,7 +22,9 @@ named n =
     (cond (eqb n 13) case.DependenciesFull
     (cond (eqb n 14) case.BadRecord
     (cond (eqb n 15) case.BadJoin
-    (cond (eqb n 16) case.JoinsFull case.TooManyRows)))))))))))))))
+    (cond (eqb n 16) case.JoinsFull
+    (cond (eqb n 17) case.TooManyRows
+    (cond (eqb n 18) case.BadCode case.CodesFull)))))))))))))))))
 
 named-number : (r : Refusal) → named (number_of r) ≡ r
 named-number case.BadDirectory = refl
@@ -42,6 +44,8 @@ named-number case.BadRecord = refl
 named-number case.BadJoin = refl
 named-number case.JoinsFull = refl
 named-number case.TooManyRows = refl
+named-number case.BadCode = refl
+named-number case.CodesFull = refl
 
 -- Those of one number are one
 pub number-same : (r s : Refusal) → number_of r ≡ number_of s → r ≡ s

@@ -4,6 +4,7 @@ use Rattle.refusals.specs.declared.Refusal.{Refusal}
 use Rattle.refusals.specs.declared.Refusal.TheVariants as case
 use Rattle.refusals.specs.Refusals.{bad_directory, bad_offsets, bad_relations, bad_dependency, bad_join, bad_query, unsafe_head, no_such_place}
 use Rattle.refusals.specs.Refusals.{heads_differ, bad_database, buffer_too_short, place_vacant, place_filled, dependencies_full, bad_record, joins_full}
+use Rattle.refusals.specs.Refusals.{bad_code, codes_full}
 use Rattle.refusals.specs.Refusals.{too_many_rows, Reply, refused, gives}
 
 -- The number of each refusal
@@ -25,6 +26,8 @@ number_of case.BadRecord = bad_record
 number_of case.BadJoin = bad_join
 number_of case.JoinsFull = joins_full
 number_of case.TooManyRows = too_many_rows
+number_of case.BadCode = bad_code
+number_of case.CodesFull = codes_full
 
 -- What a call says that answers a value or a refusal: it gives the value, or it is refused with the number
 abbrev pub reply_of : {A : Type 0} → Result A Refusal → Reply A

@@ -13,9 +13,13 @@ bad_directory = 1
 abbrev pub bad_offsets : ℕ
 bad_offsets = 2
 
--- Relations break the record's rule, or their part of a file has another length
+-- Relations break the record's rule, or the part of a file ends too early
 abbrev pub bad_relations : ℕ
 bad_relations = 3
+
+-- A pair of codes breaks the record's rule, or what follows the widths in a file is not 1 to 16 of them and no more
+abbrev pub bad_code : ℕ
+bad_code = 18
 
 -- A functional dependency, or a relation or set asked of, breaks the record's rule, or the part of a file ends too early
 abbrev pub bad_dependency : ℕ
@@ -71,17 +75,21 @@ bad_record = 14
 abbrev pub joins_full : ℕ
 joins_full = 16
 
+-- As many pairs of codes are held as there is room for
+abbrev pub codes_full : ℕ
+codes_full = 19
+
 -- The chase of a comparison would have more rows than there is room for
 abbrev pub too_many_rows : ℕ
 too_many_rows = 17
 
 -- ---- the order
 
--- The order in which a call asks: the record, the places, then by number, but 15 after 4, and 17 last of all
+-- The order in which a call asks: the record, the places, then by number, but 18 and 15 after 3 and 4, and 17 last of all
 abbrev pub order : List ℕ
 order =
-    bad_record ∷ no_such_place ∷ place_vacant ∷ bad_directory ∷ bad_offsets ∷ bad_relations ∷ bad_dependency ∷ bad_join ∷ bad_query ∷ unsafe_head ∷ heads_differ
-    ∷ bad_database ∷ buffer_too_short ∷ place_filled ∷ dependencies_full ∷ joins_full ∷ too_many_rows ∷ []
+    bad_record ∷ no_such_place ∷ place_vacant ∷ bad_directory ∷ bad_offsets ∷ bad_relations ∷ bad_code ∷ bad_dependency ∷ bad_join ∷ bad_query ∷ unsafe_head
+    ∷ heads_differ ∷ bad_database ∷ buffer_too_short ∷ place_filled ∷ dependencies_full ∷ joins_full ∷ codes_full ∷ too_many_rows ∷ []
 
 -- A condition under which a call is refused, with the number of the refusal
 abbrev pub Condition : Type 0

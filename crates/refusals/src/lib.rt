@@ -40,6 +40,10 @@ pub enum Refusal {
     JoinsFull = 16,
     // the chase of a comparison would have more rows than there is room for
     TooManyRows = 17,
+    // a pair of codes breaks the record's rule
+    BadCode = 18,
+    // as many pairs of codes are held as there is room for
+    CodesFull = 19,
 }
 
 impl From<Refusal> for u8 {

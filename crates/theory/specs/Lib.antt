@@ -4,6 +4,7 @@ pub mod Database
 pub mod Answer
 pub mod Chase
 pub mod Containment
+pub mod Codes
 pub mod AnswerTheorems
 pub mod OrderTheorems
 pub mod ChaseTheorems

@@ -1,0 +1,2 @@
+-- `internal` is what functions that read by pairs of codes cite.
+pub mod internal

@@ -1,0 +1,2 @@
+-- The pairs that are ready, and a cell as it is read.
+pub mod Codes

@@ -1,0 +1,94 @@
+// Pairs of codes made ready to read by: numbers, cells and stored queries as they are read. Whatever reads an old code as its current one does it here.
+#![tactic(auto)]
+
+ghost use Rattle.std.specs.Prelude.{◌≡◌, true, ◌%◌, ◌≤◌, map, length, take, get_or};
+ghost use Rattle.lists.specs.Tests.{every};
+ghost use Rattle.query.specs.View.{pair_of, query_of};
+ghost use Rattle.query.specs.Rule.{good_query};
+ghost use Rattle.query.specs.Stored.{stored_form};
+ghost use Rattle.theory.specs.Codes.{read_code, read_query};
+ghost use Rattle.limits.specs.internal.Schema.{widths_in};
+ghost use Rattle.codes.specs.internal.Codes.{codes_in, read_cell};
+
+use limits::schema::Schema;
+use query::{Cell, CodePair, Entry, NO_CODE_PAIR, Query};
+
+// The first `count` pairs. A number n is no old code where marked[n % 64] is false, so that most numbers are read at one look.
+#[derive(Clone, Copy)]
+pub struct Codes {
+    pub count: usize,
+    pub pairs: [CodePair; 16],
+    pub marked: [bool; 64],
+    pub ghost sure: { (count ≤ 16) × (every (λ p. get_or marked (p.old % 64) true) (take count pairs) ≡ true) },
+}
+
+impl Codes {
+    // Some pairs, at most 16, made ready.
+    pub fn new(pairs: &[CodePair]) -> Codes
+        requires { length pairs.now ≤ 16 }
+        ensures { codes_in result ≡ map pair_of pairs.now }
+    {
+        let mut marked = [false; 64];
+        for p in pairs {
+            marked[(p.old % 64) as usize] = true;
+        }
+        Codes {
+            count: pairs.len(),
+            pairs: chains::padded(pairs, NO_CODE_PAIR),
+            marked,
+        }
+    }
+
+    // A number as it is read.
+    pub fn read(&self, n: u32) -> u32
+        ensures { result ≡ read_code (codes_in self.now) n }
+    {
+        if !self.marked[(n % 64) as usize] {
+            return n;
+        }
+        for p in &self.pairs[..self.count] {
+            if n == p.old {
+                return p.current;
+            }
+        }
+        n
+    }
+
+    // A cell as it is read.
+    pub fn read_cell(&self, cell: Cell) -> Cell
+        ensures { result ≡ read_cell (codes_in self.now) cell }
+    {
+        match cell.entry {
+            Entry::Constant(n) => Cell {
+                entry: Entry::Constant(self.read(n)),
+            },
+            Entry::Variable(_) => cell,
+        }
+    }
+
+    // Each of some cells as it is read.
+    fn read_cells(&self, cells: &mut [Cell])
+        ensures { cells.new ≡ map (read_cell (codes_in self.now)) cells.old }
+    {
+        for cell in cells.iter_mut() {
+            *cell = self.read_cell(*cell);
+        }
+    }
+
+    // A stored query as it is read. What is not in use stays.
+    pub fn read_query(&self, schema: Schema, q: Query) -> Query
+        requires { good_query (widths_in schema) q ≡ true }
+        ensures { result ≡ stored_form 12 (read_query (codes_in self.now) (query_of (widths_in schema) q)) }
+    {
+        let mut read = q;
+        if self.count == 0 {
+            return read;
+        }
+        self.read_cells(&mut read.head[..limits::head_in_use(q.arity, q.size)]);
+        for (row, relation) in q.relations[..q.size as usize].iter().enumerate() {
+            let width = schema.width_of(*relation) as usize;
+            self.read_cells(&mut read.cells[8 * row..8 * row + width]);
+        }
+        read
+    }
+}
