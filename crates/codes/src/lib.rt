@@ -1,8 +1,7 @@
 // Pairs of codes made ready to read by: numbers, cells and stored queries as they are read. Whatever reads an old code as its current one does it here.
 #![tactic(auto)]
 
-ghost use Rattle.std.specs.Prelude.{◌≡◌, true, ◌%◌, ◌≤◌, map, length, take, get_or};
-ghost use Rattle.lists.specs.Tests.{every};
+ghost use Rattle.std.specs.Prelude.{◌≡◌, true, ◌≤◌, map, length};
 ghost use Rattle.query.specs.View.{pair_of, query_of};
 ghost use Rattle.query.specs.Rule.{good_query};
 ghost use Rattle.query.specs.Stored.{stored_form};
@@ -10,17 +9,11 @@ ghost use Rattle.theory.specs.Codes.{read_code, read_query};
 ghost use Rattle.limits.specs.internal.Schema.{widths_in};
 ghost use Rattle.codes.specs.internal.Codes.{codes_in, read_cell};
 
-use limits::schema::Schema;
-use query::{Cell, CodePair, Entry, NO_CODE_PAIR, Query};
+pub mod pairs; // pairs.rt: the pairs that are ready
 
-// The first `count` pairs. A number n is no old code where marked[n % 64] is false, so that most numbers are read at one look.
-#[derive(Clone, Copy)]
-pub struct Codes {
-    pub count: usize,
-    pub pairs: [CodePair; 16],
-    pub marked: [bool; 64],
-    pub ghost sure: { (count ≤ 16) × (every (λ p. get_or marked (p.old % 64) true) (take count pairs) ≡ true) },
-}
+use limits::schema::Schema;
+use pairs::Codes;
+use query::{Cell, CodePair, Entry, NO_CODE_PAIR, Query};
 
 impl Codes {
     // Some pairs, at most 16, made ready.

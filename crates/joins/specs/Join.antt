@@ -4,6 +4,7 @@ use Rattle.lists.specs.Tests.{every}
 use Rattle.lists.specs.Numbers.{numbers_where}
 use Rattle.theory.specs.Query.{Row, member, FitsSchema, ◌∈◌}
 use Rattle.theory.specs.Database.{Database, Dependency, Agree, Obeys, Sound, JoinDependency}
+use Rattle.theory.specs.Codes.{CodePair, WithoutOld}
 use Rattle.minimization.specs.Checking.{nonempty}
 
 -- Row r is in the join of the projections of some rows: on each set it agrees with a row of the relation
@@ -27,6 +28,11 @@ pub record ObeysBoth (widths : List ℕ) (ds : List Dependency) (js : List JoinD
 pub record LegalForBoth (widths : List ℕ) (ds : List Dependency) (js : List JoinDependency) (D : Database) : Type 0 where
   pub sound : Sound widths D
   pub obeys : ObeysBoth widths ds js D
+
+-- The databases that statements on both kinds speak of: legal for both, and without old codes
+pub record LegalForBothAsRead (ps : List CodePair) (widths : List ℕ) (ds : List Dependency) (js : List JoinDependency) (D : Database) : Type 0 where
+  pub legal : LegalForBoth widths ds js D
+  pub current : WithoutOld ps D
 
 -- A join dependency fits a schema: its relation is known, it has a set, and its sets together have all columns of the relation
 pub record JoinFits (widths : List ℕ) (j : JoinDependency) : Type 0 where

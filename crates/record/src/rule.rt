@@ -6,7 +6,7 @@ ghost use Rattle.record.specs.View.{schema_of, codes_of};
 ghost use Rattle.codes.specs.internal.Codes.{codes_in};
 
 use crate::Record;
-use codes::Codes;
+use codes::pairs::Codes;
 use limits::schema::Schema;
 use query::{CodePair, Dependency};
 

@@ -1,7 +1,7 @@
 -- Constants that were renumbered. Each old code, in a query or in a database, is read as its current one before anything else is done.
 use Rattle.std.specs.Prelude.{◌≡◌, ◌≢◌, false, cond, List, [], ◌∷◌, map, ℕ, eqb}
 use Rattle.theory.specs.Query.{Entry, constant, variable, Row, Query, map_row, row_entries, member, ◌∈◌}
-use Rattle.theory.specs.Database.{Database}
+use Rattle.theory.specs.Database.{Database, Dependency, Legal}
 
 -- A code that was renumbered, and the one that it has now
 pub record CodePair : Type 0 where
@@ -39,11 +39,17 @@ old_codes ps = map (λ p. p.old) ps
 abbrev pub WithoutOld : List CodePair → Database → Type 0
 WithoutOld ps D = (r : Row ℕ) → r ∈ D → (n : ℕ) → n ∈ r.values → member n (old_codes ps) ≡ false
 
--- A query without old codes: no constant of its head or its rows is one
+-- A query without old codes: no constant of its head or its rows is one. Of the head of never only its length means anything
 pub record QueryWithoutOld (ps : List CodePair) (q : Query) : Type 0 where
-  pub of-head : (n : ℕ) → constant n ∈ q.head → member n (old_codes ps) ≡ false
+  pub of-head : q.rows ≢ [] → (n : ℕ) → constant n ∈ q.head → member n (old_codes ps) ≡ false
   pub of-rows : (n : ℕ) → constant n ∈ row_entries q.rows → member n (old_codes ps) ≡ false
 
 -- No current code is an old one, so that to read twice is to read once
 abbrev pub CurrentStay : List CodePair → Type 0
 CurrentStay ps = (p : CodePair) → p ∈ ps → member p.current (old_codes ps) ≡ false
+
+-- The databases that statements speak of: legal for the schema and the functional dependencies, and without old codes. For both kinds of dependencies see
+-- `LegalForBothAsRead` of `joins`
+pub record LegalAsRead (ps : List CodePair) (widths : List ℕ) (ds : List Dependency) (D : Database) : Type 0 where
+  pub legal : Legal widths ds D
+  pub current : WithoutOld ps D

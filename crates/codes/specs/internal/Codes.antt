@@ -5,7 +5,7 @@ use Rattle.query.specs.declared.Entry.TheVariants.{Constant, Variable}
 use Rattle.query.specs.declared.Cell.{Cell}
 use Rattle.query.specs.View.{held_codes}
 use Rattle.theory.specs.Codes.{CodePair, read_code}
-use Rattle.codes.specs.declared.Codes.{Codes}
+use Rattle.codes.specs.declared.pairs.Codes.{Codes}
 
 -- The pairs that are ready
 abbrev pub codes_in : Codes → List CodePair
