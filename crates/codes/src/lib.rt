@@ -67,21 +67,4 @@ impl Codes {
             *cell = self.read_cell(*cell);
         }
     }
-
-    // A stored query as it is read. What is not in use stays.
-    pub fn read_query(&self, schema: Schema, q: Query) -> Query
-        requires { good_query (widths_in schema) q ≡ true }
-        ensures { result ≡ stored_form 12 (read_query (codes_in self.now) (query_of (widths_in schema) q)) }
-    {
-        let mut read = q;
-        if self.count == 0 {
-            return read;
-        }
-        self.read_cells(&mut read.head[..limits::head_in_use(q.arity, q.size)]);
-        for (row, relation) in q.relations[..q.size as usize].iter().enumerate() {
-            let width = schema.width_of(*relation) as usize;
-            self.read_cells(&mut read.cells[8 * row..8 * row + width]);
-        }
-        read
-    }
 }

@@ -1,5 +1,5 @@
 // Pairs of codes that are ready to read by.
-ghost use Rattle.std.specs.Prelude.{◌≡◌, true, ◌%◌, ◌≤◌, take, get_or};
+ghost use Rattle.std.specs.Prelude.{◌≡◌, true, false, ◌%◌, ◌≤◌, take, get_or};
 ghost use Rattle.lists.specs.Tests.{every};
 
 use query::CodePair;
@@ -10,5 +10,5 @@ pub struct Codes {
     pub count: usize,
     pub pairs: [CodePair; 16],
     pub marked: [bool; 64],
-    pub ghost sure: { (count ≤ 16) × (every (λ p. get_or marked (p.old % 64) true) (take count pairs) ≡ true) },
+    pub ghost sure: { (count ≤ 16) × (every (λ p. get_or marked (p.old % 64) false) (take count pairs) ≡ true) },
 }

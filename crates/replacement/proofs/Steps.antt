@@ -41,13 +41,6 @@ substitute-other v e c w is other = ap cell_of (is ∙ rw (is, ne_eqb w v other)
 substitute-unused : (v : ℕ) (e : Entry) (c : Cell) → blank_cell c ≡ true → c ≡ substitute_cell v e c
 substitute-unused v e c blank = substitute-constant v e c 0 (blank-entry c.entry blank)
 
--- An element that a loop has not come to is as it was
-pub map_first-here : {A : Type 0} (f : A → A) (k : ℕ) (xs : List A) (d : A) → get_or (map_first f k xs) k d ≡ get_or xs k d
-unfolding map_first
-map_first-here f zero xs d = refl
-map_first-here f (suc k) [] d = refl
-map_first-here f (suc k) (x ∷ xs) d = map_first-here f k xs d
-
 -- With all that is in use replaced, all cells are
 pub substitute-used : (v : ℕ) (e : Entry) (k : ℕ) (cells : List Cell) → every blank_cell (drop k cells) ≡ true
     → map (substitute_cell v e) (take k cells) ++ drop k cells ≡ map (substitute_cell v e) cells

@@ -2,6 +2,7 @@
 -- `database_of` reads the rows, `spells_rows` judges the words (refusal 9), and `Spells` is what the two are: `Meaning` says so.
 use Rattle.std.specs.Prelude.{◌≡◌, Bool, true, false, ◌&&◌, List, [], ◌∷◌, ◌++◌, ℕ, zero, suc, ltb, length, take, get_or}
 use Rattle.theory.specs.Database.{Database, Sound}
+use Rattle.theory.specs.Codes.{CodePair, read_database}
 
 -- The words of some rows, row by row
 unfoldable pub words_of : Database → List ℕ
@@ -29,6 +30,10 @@ spells_rows_from schema (suc due) (word ∷ words) = spells_rows_from schema due
 -- The database that words spell
 abbrev pub database_of : List ℕ → List ℕ → Database
 database_of schema words = rows_from schema 0 words
+
+-- The same as it is read: each old code as its current one
+abbrev pub database_read : List CodePair → List ℕ → List ℕ → Database
+database_read codes schema words = read_database codes (database_of schema words)
 
 -- Whether words spell rows: the opposite is refusal 9, a row of unknown relation or cut short
 abbrev pub spells_rows : List ℕ → List ℕ → Bool

@@ -6,8 +6,7 @@ use lib.ListN.{get_or}
 use Rattle.query.specs.declared.Cell.{Cell}
 use Rattle.query.specs.Rule.{no_cell}
 use Rattle.replacement.specs.internal.Replacement.{substitute_cell}
-use Rattle.replacement.proofs.Steps.{map_first-here}
-use Rattle.lists.proofs.Maps.{map_first-none, map_first-more, map_first-done}
+use Rattle.lists.proofs.Maps.{map_first-none, map_first-here, map_first-more, map_first-done}
 use Rattle.replacement.proofs.substitute_all.Goals as goal
 
 pub loop-cell-init : goal.loop-cell-init

@@ -1,0 +1,2 @@
+-- Laws of marks (Marks), and of reading the cells of a stored query (Reading).
+pub mod Marks
