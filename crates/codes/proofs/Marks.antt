@@ -1,14 +1,13 @@
 -- The marks of old codes: a number that is not marked is none. Assumes nothing.
 use mathlib.Core.Path.{◌≡◌, refl, sym, ap, ◌∙◌}
 use mathlib.Core.Bool.{Bool, true, false}
-use mathlib.Core.List.{List, [], ◌∷◌, ◌++◌, map}
+use mathlib.Core.List.{List, [], ◌∷◌, map}
 use Rattle.std.proofs.Common.{⊎_elim, drop_of_length-le}
 use Prim.Native.Nat.{ℕ, ◌+◌, ◌<◌, ◌≤◌, ◌%◌}
 use native.Mathlib.Omega.{arith}
 use native.Mathlib.Numerals.{add-one}
 use lib.ListN.{length, get_or, take, drop, set}
 use lib.Seq.{take-suc, drop-cons, get_or-set_same, get_or-set_other}
-use lib.Dec.{eqb}
 use borrow.Author.Tests.{eq-eqb, ne_eqb}
 use Rattle.lists.specs.Tests.{every}
 use Rattle.lists.proofs.Tests.{and_left, and_right, and_both, every_append, every-weaken, same_or_other}
