@@ -1,2 +1,3 @@
 -- Laws of marks (Marks), and of reading the cells of a stored query (Reading).
 pub mod Marks
+pub mod Reading

@@ -1,13 +1,12 @@
 // Pairs of codes made ready to read by: numbers, cells and stored queries as they are read. Whatever reads an old code as its current one does it here.
 #![tactic(auto)]
 
-ghost use Rattle.std.specs.Prelude.{◌≡◌, true, ◌≤◌, map, length};
+ghost use Rattle.std.specs.Prelude.{◌≡◌, true, ◌*◌, ◌≤◌, map, length};
 ghost use Rattle.query.specs.View.{pair_of, query_of};
 ghost use Rattle.query.specs.Rule.{good_query};
-ghost use Rattle.query.specs.Stored.{stored_form};
 ghost use Rattle.theory.specs.Codes.{read_code, read_query};
 ghost use Rattle.limits.specs.internal.Schema.{widths_in};
-ghost use Rattle.codes.specs.internal.Codes.{codes_in, read_cell};
+ghost use Rattle.codes.specs.internal.Codes.{codes_in, read_cell, read_rows, within_limit};
 
 pub mod pairs; // pairs.rt: the pairs that are ready
 
@@ -66,5 +65,29 @@ impl Codes {
         for cell in cells.iter_mut() {
             *cell = self.read_cell(*cell);
         }
+    }
+
+    // The rows of the given relations as they are read, row r having the cells from 8 * r on, one a column.
+    fn read_rows(&self, schema: Schema, relations: &[u8], cells: &mut [Cell])
+        requires { 8 * length relations.now ≤ length cells.old }
+        ensures { cells.new ≡ read_rows (codes_in self.now) (widths_in schema) relations.now cells.old }
+    {
+        for (row, relation) in relations.iter().enumerate() {
+            let width = schema.width_of(*relation) as usize;
+            self.read_cells(&mut cells[8 * row..8 * row + width]);
+        }
+    }
+
+    // A stored query as it is read. What is not in use stays.
+    pub fn read_query(&self, schema: Schema, q: Query) -> Query
+        requires { good_query (widths_in schema) q ≡ true }
+        ensures query { query_of (widths_in schema) result ≡ read_query (codes_in self.now) (query_of (widths_in schema) q) }
+        ensures good { within_limit self.now → good_query (widths_in schema) result ≡ true }
+    {
+        let mut head = q.head;
+        let mut cells = q.cells;
+        self.read_cells(&mut head[..limits::head_in_use(q.arity, q.size)]);
+        self.read_rows(schema, &q.relations[..q.size as usize], &mut cells);
+        Query { head, cells, ..q }
     }
 }
