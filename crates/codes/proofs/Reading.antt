@@ -1,7 +1,7 @@
 -- The cells of a stored query's rows as they are read: what a loop over the rows makes, what they stand for, and that they keep the limits. Assumes nothing.
 use mathlib.Core.Path.{◌≡◌, refl, sym, ap, ap₂, ◌∙◌}
 use mathlib.Core.Bool.{Bool, true, false, cond}
-use mathlib.Core.List.{List, [], ◌∷◌, ◌++◌, map, append_assoc, append-nil}
+use mathlib.Core.List.{List, [], ◌∷◌, ◌++◌, map, append_assoc, append-nil, map-append}
 use Prim.Native.Nat.{ℕ, ◌+◌, ◌*◌, ◌-◌, ◌≤◌, ◌<◌}
 use native.Mathlib.Omega.{arith}
 use lib.Dec.{eqb, leb, ltb}
@@ -16,15 +16,15 @@ use Rattle.lists.proofs.Maps.{every_map}
 use Rattle.query.specs.declared.Entry as stored
 use Rattle.query.specs.declared.Entry.TheVariants.{Constant, Variable}
 use Rattle.query.specs.declared.Cell.{Cell}
-use Rattle.query.specs.View.{entry_of, entries_of, rows_of, query_of, pair_of}
-use Rattle.query.specs.declared.CodePair.{CodePair as CodePairStored}
+use Rattle.query.specs.View.{entry_of, entries_of, rows_of, query_of}
 use Rattle.query.specs.Types.{Query}
-use Rattle.query.specs.Rule.{good_entry, good_cell, blank_cell, good_row, good_rows, good_query, head_in_use}
+use Rattle.query.specs.Rule.{good_entry, good_cell, blank_cell, good_row, good_rows, good_query, head_in_use, head_safe}
 use Rattle.query.proofs.Good.{GoodUpTo, good-query, make-query}
 use Rattle.query.proofs.Shape.{SizedFor}
 use Rattle.query.proofs.Shape as Shape
 use Rattle.query.proofs.Stored.{row-parts, rows-first, rows-rest}
-use Rattle.theory.specs.Query.{Entry, Row, map_row}
+use Rattle.theory.specs.Query.{Entry, constant, variable, Row, map_row, row_entries, variables_of, subset}
+use Rattle.theory.specs.Query as theory
 use Rattle.theory.specs.Codes.{CodePair, read_code, read_entry, read_head, read_query}
 use Rattle.codes.specs.internal.Codes.{read_stored, read_cell, read_row, read_rows}
 
@@ -200,22 +200,22 @@ module _ (ps : List CodePair) where
 -- ---- a query
 
 -- A number within the limit is read as one within it
-read-limit : (pairs : List CodePairStored) (n : ℕ) → every (λ p. leb p.current 2147483647) pairs ≡ true → leb n 2147483647 ≡ true
-    → leb (read_code (map pair_of pairs) n) 2147483647 ≡ true
+read-limit : (ps : List CodePair) (n : ℕ) → every (λ p. leb p.current 2147483647) ps ≡ true → leb n 2147483647 ≡ true
+    → leb (read_code ps n) 2147483647 ≡ true
 unfolding read_code every
 read-limit [] n all e = e
-read-limit (p ∷ pairs) n all e =
-    cond-elim p.current (read_code (map pair_of pairs) n) (eqb n p.old) (and_left (leb p.current 2147483647) (every (λ p. leb p.current 2147483647) pairs) all)
-    (read-limit pairs n (and_right (leb p.current 2147483647) (every (λ p. leb p.current 2147483647) pairs) all) e)
+read-limit (p ∷ ps) n all e =
+    either p.current (read_code ps n) (eqb n p.old) (and_left (leb p.current 2147483647) (every (λ p. leb p.current 2147483647) ps) all)
+    (read-limit ps n (and_right (leb p.current 2147483647) (every (λ p. leb p.current 2147483647) ps) all) e)
   where
-    cond-elim : (m k : ℕ) (b : Bool) → leb m 2147483647 ≡ true → leb k 2147483647 ≡ true → leb (cond b m k) 2147483647 ≡ true
-    cond-elim m k true one other = one
-    cond-elim m k false one other = other
+    either : (m k : ℕ) (b : Bool) → leb m 2147483647 ≡ true → leb k 2147483647 ≡ true → leb (cond b m k) 2147483647 ≡ true
+    either m k true one other = one
+    either m k false one other = other
 
-entry-limit : (pairs : List CodePairStored) (e : stored.Entry) → every (λ p. leb p.current 2147483647) pairs ≡ true → good_entry e ≡ true
-    → good_entry (read_stored (map pair_of pairs) e) ≡ true
-entry-limit pairs (Constant n) all e = read-limit pairs n all e
-entry-limit pairs (Variable v) all e = e
+entry-limit : (ps : List CodePair) (e : stored.Entry) → every (λ p. leb p.current 2147483647) ps ≡ true → good_entry e ≡ true
+    → good_entry (read_stored ps e) ≡ true
+entry-limit ps (Constant n) all e = read-limit ps n all e
+entry-limit ps (Variable v) all e = e
 
 -- A head of a query that is no never is read
 head-read : (ps : List CodePair) (rows : List (Row Entry)) (head : List Entry) → 0 < length rows → read_head ps rows head ≡ map (read_entry ps) head
@@ -228,11 +228,35 @@ unfolding read_head
 head-stays ps [] head e = refl
 head-stays ps (r ∷ rows) head e = absurd (omega arith)
 
-module _ (pairs : List CodePairStored) (schema : List ℕ) (narrow : (i : ℕ) → get_or schema i 0 ≤ 8) (q : Query) (sized : SizedFor 12 q)
-    (good : good_query schema q ≡ true) where
-  abbrev pub ps : List CodePair
-  ps = map pair_of pairs
+-- Reading keeps the variables
+variables-read : (ps : List CodePair) (es : List Entry) → variables_of (map (read_entry ps) es) ≡ variables_of es
+unfolding variables_of
+variables-read ps [] = refl
+variables-read ps (constant n ∷ es) = variables-read ps es
+variables-read ps (variable v ∷ es) = ap (λ (vs : List ℕ). v ∷ vs) (variables-read ps es)
 
+head-variables : (ps : List CodePair) (rows : List (Row Entry)) (head : List Entry) → variables_of (read_head ps rows head) ≡ variables_of head
+unfolding read_head
+head-variables ps [] head = refl
+head-variables ps (r ∷ rows) head = variables-read ps head
+
+row-entries-read : (ps : List CodePair) (rows : List (Row Entry)) → row_entries (map (map_row (read_entry ps)) rows) ≡ map (read_entry ps) (row_entries rows)
+unfolding row_entries
+row-entries-read ps [] = refl
+row-entries-read ps (r ∷ rows) =
+    ap (λ (es : List Entry). map (read_entry ps) r.values ++ es) (row-entries-read ps rows) ∙ sym (map-append (read_entry ps) r.values (row_entries rows))
+
+-- so a safe head stays safe
+pub safe-read : (ps : List CodePair) (schema : List ℕ) (q read : Query) → query_of schema read ≡ read_query ps (query_of schema q)
+    → head_safe schema q ≡ true → head_safe schema read ≡ true
+unfolding head_safe
+safe-read ps schema q read is safe =
+    let Q = query_of schema q in
+    ap (λ (P : theory.Query). subset (variables_of P.head) (variables_of (row_entries P.rows))) is
+    ∙ ap₂ subset (head-variables ps Q.rows Q.head) (ap variables_of (row-entries-read ps Q.rows) ∙ variables-read ps (row_entries Q.rows)) ∙ safe
+
+module _ (ps : List CodePair) (schema : List ℕ) (narrow : (i : ℕ) → get_or schema i 0 ≤ 8) (q : Query) (sized : SizedFor 12 q)
+    (good : good_query schema q ≡ true) where
   kept : GoodUpTo 12 schema q
   kept = good-query 12 schema q good
 
@@ -290,9 +314,9 @@ module _ (pairs : List CodePairStored) (schema : List ℕ) (narrow : (i : ℕ) �
       (heads (rows_of schema named q.cells) (Shape.rows-length schema named q.cells ∙ count)) (rows-read ps schema narrow named q.cells room)
 
   -- and keeps the limits
-  pub query-good : every (λ p. leb p.current 2147483647) pairs ≡ true → good_query schema as_read ≡ true
+  pub query-good : every (λ p. leb p.current 2147483647) ps ≡ true → good_query schema as_read ≡ true
   query-good limit =
-      let cell : (c : Cell) → good_cell c ≡ true → good_cell (read_cell ps c) ≡ true = λ c e. entry-limit pairs c.entry limit e in
+      let cell : (c : Cell) → good_cell c ≡ true → good_cell (read_cell ps c) ≡ true = λ c e. entry-limit ps c.entry limit e in
       let h = head_in_use q in
       let used = cells-good ps schema narrow cell (take h q.head) (used-good h good_cell blank_cell q.head kept.head) in
       let front : length (map (read_cell ps) (take h q.head)) ≡ h =

@@ -3,7 +3,7 @@
 
 ghost use Rattle.std.specs.Prelude.{◌≡◌, true, ◌*◌, ◌≤◌, map, length};
 ghost use Rattle.query.specs.View.{pair_of, query_of};
-ghost use Rattle.query.specs.Rule.{good_query};
+ghost use Rattle.query.specs.Rule.{good_query, head_safe};
 ghost use Rattle.theory.specs.Codes.{read_code, read_query};
 ghost use Rattle.limits.specs.internal.Schema.{widths_in};
 ghost use Rattle.codes.specs.internal.Codes.{codes_in, read_cell, read_rows, within_limit};
@@ -83,6 +83,7 @@ impl Codes {
         requires { good_query (widths_in schema) q ≡ true }
         ensures query { query_of (widths_in schema) result ≡ read_query (codes_in self.now) (query_of (widths_in schema) q) }
         ensures good { within_limit self.now → good_query (widths_in schema) result ≡ true }
+        ensures safe { head_safe (widths_in schema) q ≡ true → head_safe (widths_in schema) result ≡ true }
     {
         let mut head = q.head;
         let mut cells = q.cells;

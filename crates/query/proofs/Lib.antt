@@ -6,5 +6,6 @@ pub mod Shape
 -- What the views and the rule come to (Meaning), and examples of them.
 pub mod Meaning
 pub mod Examples
--- The code of an entry.
+-- The code of an entry, and pairs of codes that may be held together.
 pub mod Codes
+pub mod Pairs

@@ -1,24 +1,27 @@
--- The calls keep the rule: a good record with another content of a place and one with a dependency of either kind more are good.
+-- The calls keep the rule: a good record with another content of a place one with a pair of codes more and one with a dependency of either kind more are good.
 -- A place that holds a good query with a safe head is good, and so is a vacant one
-use mathlib.Core.Path.{◌≡◌, refl}
+use mathlib.Core.Path.{◌≡◌, refl, sym, ap, ◌∙◌}
+use native.Mathlib.Numerals.{add-one}
 use mathlib.Core.Bool.{true}
 use mathlib.Core.List.{List}
-use Prim.Native.Nat.{ℕ, ◌<◌}
+use Prim.Native.Nat.{ℕ, ◌+◌, ◌<◌}
 use native.Mathlib.Omega.{arith}
-use lib.ListN.{length, get_or}
-use lib.Seq.{get_or-set_same}
+use lib.ListN.{length, get_or, take, drop, set}
+use lib.Seq.{get_or-set_same, take-suc-set, drop-set-lt, drop-drop}
 use Rattle.query.specs.Types.{Query}
 use Rattle.query.specs.declared.Dependency.{Dependency}
 use Rattle.query.specs.declared.JoinDependency.{JoinDependency}
+use Rattle.query.specs.declared.CodePair.{CodePair}
 use Rattle.query.specs.declared.Place.{Place}
 use Rattle.record.specs.declared.Record.{Record}
 use Rattle.record.specs.View.{schema_of}
 use Rattle.lists.specs.Tests.{every}
-use Rattle.query.specs.Rule.{good_dependency, blank_dependency, good_join, blank_join, good_query, head_safe, blank_query, good_place, no_place}
+use Rattle.query.specs.Rule.{pair_fits, all_fit, blank_pair, good_dependency, blank_dependency, good_join, blank_join, good_query, head_safe, blank_query, good_place, no_place}
 use Rattle.query.specs.Rule.{place_with}
 use Rattle.record.specs.Rule.{good_record}
-use Rattle.record.specs.Calls.{with_place, with_dependency, with_join}
-use Rattle.lists.proofs.Tests.{and_both, every_set, used-more}
+use Rattle.record.specs.Calls.{with_place, with_code, with_dependency, with_join}
+use Rattle.lists.proofs.Tests.{and_both, every_drop, every_set, used-more}
+use Rattle.query.proofs.Pairs.{one-more-fits}
 use Rattle.record.proofs.Good.{good-record, make-record}
 
 pub filled-place : (schema : List ℕ) (q : Query) → good_query schema q ≡ true → head_safe schema q ≡ true
@@ -36,11 +39,36 @@ place_kept r place p good fits =
     make-record (with_place r place p)
     (record {
       relations = g.relations;
+      coded = g.coded;
+      codes = g.codes;
+      no-codes = g.no-codes;
       held = g.held;
       dependencies = g.dependencies;
       joined = g.joined;
       joins = g.joins;
       places = every_set (good_place (schema_of r)) r.places place p g.places fits;
+    })
+
+-- One pair of codes more
+pub code-kept : (r : Record) (p : CodePair) → good_record r ≡ true → pair_fits (take r.coded r.codes) p ≡ true → r.coded < 16
+    → length r.codes ≡ 16 → good_record (with_code r p) ≡ true
+code-kept r p good fits room long =
+    let g = good-record r good in
+    make-record (with_code r p)
+    (record {
+      relations = g.relations;
+      coded = omega arith;
+      codes =
+          ap (λ (n : ℕ). all_fit (take n (set r.codes r.coded p))) (add-one r.coded) ∙ ap all_fit (take-suc-set r.codes r.coded p (omega arith))
+          ∙ one-more-fits (take r.coded r.codes) p g.codes fits;
+      no-codes =
+          ap (every blank_pair) (drop-set-lt (r.coded + 1) r.codes r.coded p (omega arith) ∙ sym (drop-drop 1 r.coded r.codes))
+          ∙ every_drop blank_pair 1 (drop r.coded r.codes) g.no-codes;
+      held = g.held;
+      dependencies = g.dependencies;
+      joined = g.joined;
+      joins = g.joins;
+      places = g.places;
     })
 
 -- One functional dependency more
@@ -51,6 +79,9 @@ dependency-kept r d good fits room long =
     make-record (with_dependency r d)
     (record {
       relations = g.relations;
+      coded = g.coded;
+      codes = g.codes;
+      no-codes = g.no-codes;
       held = omega arith;
       dependencies =
           used-more r.held (good_dependency (schema_of r)) blank_dependency r.dependencies d (omega arith) fits g.dependencies;
@@ -67,6 +98,9 @@ join_kept r j good fits room long =
     make-record (with_join r j)
     (record {
       relations = g.relations;
+      coded = g.coded;
+      codes = g.codes;
+      no-codes = g.no-codes;
       held = g.held;
       dependencies = g.dependencies;
       joined = omega arith;

@@ -12,17 +12,19 @@ use lib.Dec.{eqb}
 use borrow.Author.Tests.{eqb-false, not-false}
 use Rattle.query.specs.declared.Dependency.{Dependency}
 use Rattle.query.specs.declared.JoinDependency.{JoinDependency}
-use Rattle.query.specs.View.{dependency_of, join_of}
-use Rattle.query.specs.Rule.{good_dependency, good_join, good_query, head_safe, place_with}
+use Rattle.query.specs.declared.CodePair.{CodePair}
+use Rattle.query.specs.View.{dependency_of, join_of, pair_of}
+use Rattle.query.specs.Rule.{pair_fits, good_dependency, good_join, good_query, head_safe, place_with}
 use Rattle.refusals.specs.Refusals.{first_holding, gives}
 use Rattle.refusals.proofs.Refusals.{none-holds, refused-gives}
 use Rattle.record.specs.declared.Record.{Record}
-use Rattle.record.specs.View.{schema_of, dependencies_of, joins_of}
+use Rattle.record.specs.View.{schema_of, codes_of, dependencies_of, joins_of}
 use Rattle.record.specs.Rule.{good_record}
-use Rattle.record.specs.Calls.{concluded, broken_record, unknown_place, filled, with_place, with_dependency, with_join, add_conditions, add_dependency, add_join_conditions, add_join, put_query}
-use Rattle.record.specs.Meaning.{AddKeeps, AddHolds, AddJoinKeeps, AddJoinHolds, PutKeeps}
+use Rattle.record.specs.Calls.{concluded, broken_record, unknown_place, filled, with_place, with_code, with_dependency, with_join, add_code_conditions, add_code, add_conditions, add_dependency, add_join_conditions, add_join, put_query}
+use Rattle.record.specs.Meaning.{AddCodeKeeps, AddCodeHolds, CodesStay, OldBelow, AddKeeps, AddHolds, AddJoinKeeps, AddJoinHolds, PutKeeps}
+use Rattle.query.proofs.Pairs.{current-stays, old-limit}
 use Rattle.record.proofs.Good.{good-record}
-use Rattle.record.proofs.Kept.{filled-place, place_kept, dependency-kept, join_kept}
+use Rattle.record.proofs.Kept.{filled-place, place_kept, code-kept, dependency-kept, join_kept}
 
 -- ---- accepted calls keep the rule, and what is added is held
 
@@ -47,6 +49,33 @@ addable good fit held most k l clear =
     let a = none-holds (not good) 14 ((not fit, k) ∷ (eqb held most, l) ∷ []) clear in
     let b = none-holds (not fit) k ((eqb held most, l) ∷ []) a.1 in
     (not-false good a.0, not-false fit b.0, eqb-false held most (none-holds (eqb held most) l [] b.1).0)
+
+-- Add a pair of codes
+module _ (r : Record) (p : CodePair) (clear : first_holding (add_code_conditions r p) ≡ none) where
+  may-code : Good r × (pair_fits (take r.coded r.codes) p ≡ true) × (r.coded < 16)
+  may-code =
+      let may = addable (good_record r) (pair_fits (take r.coded r.codes) p) r.coded 16 18 19 clear in
+      let few = may.2 in
+      let most = (good-record r may.0).coded in
+      (may.0, may.1, omega arith)
+
+pub add-code-keeps : AddCodeKeeps
+unfolding add_code
+add-code-keeps r p long e =
+    accepted Good (first_holding (add_code_conditions r p)) r (with_code r p) e
+    (λ clear. let may = may-code r p clear in code-kept r p may.0 may.1 may.2 long)
+
+pub add-code-holds : AddCodeHolds
+unfolding add_code
+add-code-holds r p long e =
+    accepted (λ after. codes_of after ≡ codes_of r ++ pair_of p ∷ []) (first_holding (add_code_conditions r p)) r (with_code r p) e
+    (λ clear. let room = (may-code r p clear).2 in one-more pair_of r.codes r.coded p (omega arith))
+
+pub codes-stay : CodesStay
+codes-stay r good = current-stays (take r.coded r.codes) (good-record r good).codes
+
+pub old-below : OldBelow
+old-below r good = old-limit (take r.coded r.codes) (good-record r good).codes
 
 -- Add a functional dependency
 module _ (r : Record) (d : Dependency) (clear : first_holding (add_conditions r d) ≡ none) where

@@ -7,12 +7,14 @@ use borrow.Author.Tests.{lt-ltb, le-ltb, eq-eqb, ne_eqb}
 use Rattle.query.specs.Types.{Query}
 use Rattle.query.specs.declared.Dependency.{Dependency}
 use Rattle.query.specs.declared.JoinDependency.{JoinDependency}
-use Rattle.query.specs.Rule.{good_dependency, good_join, good_query, head_safe, place_with}
+use Rattle.query.specs.declared.CodePair.{CodePair}
+use lib.ListN.{take}
+use Rattle.query.specs.Rule.{pair_fits, good_dependency, good_join, good_query, head_safe, place_with}
 use Rattle.refusals.specs.Refusals.{first_holding, refused, gives}
 use Rattle.record.specs.declared.Record.{Record}
 use Rattle.record.specs.View.{schema_of}
 use Rattle.record.specs.Rule.{good_record}
-use Rattle.record.specs.Calls.{concluded, with_place, with_dependency, with_join, add_dependency, add_join, put_query}
+use Rattle.record.specs.Calls.{concluded, with_place, with_code, with_dependency, with_join, add_code, add_dependency, add_join, put_query}
 use Rattle.record.specs.internal.Lookup.{place_at, vacant_place}
 use Rattle.record.proofs.Refusals.{vacant-at, place-refused, vacant-refused}
 
@@ -56,6 +58,25 @@ module _ (r : Record) (place : ℕ) (q : Query) where
               rw (good, lt-ltb place 8 low, fit, safe, f.2, f.0)
 
 -- ---- add
+
+module _ (r : Record) (p : CodePair) where
+  pub code-broken : good_record r ≡ false → concluded (some 14) r r ≡ add_code r p
+  unfolding add_code first_holding
+  code-broken e = rw e
+
+  module _ (good : good_record r ≡ true) where
+    pub code-unfit : pair_fits (take r.coded r.codes) p ≡ false → concluded (some 18) r r ≡ add_code r p
+    unfolding add_code first_holding
+    code-unfit e = rw (good, e)
+
+    module _ (fit : pair_fits (take r.coded r.codes) p ≡ true) where
+      pub code-full : r.coded ≡ 16 → concluded (some 19) r r ≡ add_code r p
+      unfolding add_code first_holding
+      code-full e = rw (good, fit, eq-eqb r.coded 16 e)
+
+      pub code-done : (r.coded ≡ 16 → ⊥) → concluded none (with_code r p) (with_code r p) ≡ add_code r p
+      unfolding add_code first_holding
+      code-done e = rw (good, fit, ne_eqb r.coded 16 e)
 
 module _ (r : Record) (d : Dependency) where
   pub add-broken : good_record r ≡ false → concluded (some 14) r r ≡ add_dependency r d

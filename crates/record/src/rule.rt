@@ -18,8 +18,10 @@ impl Record {
         let Some(schema) = Schema::new(self.relations, self.widths) else {
             return false;
         };
-        limits::codes_good(self.coded, self.codes)
-            && schema.dependencies_good(self.held, self.dependencies)
+        if !limits::codes_good(self.coded, self.codes) {
+            return false;
+        }
+        schema.dependencies_good(self.held, self.dependencies)
             && schema.joins_good(self.joined, self.joins)
             && schema.places_good(self.places)
     }

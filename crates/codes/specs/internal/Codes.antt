@@ -32,4 +32,4 @@ read_rows ps widths (relation ∷ relations) cells = read_row ps (get_or widths 
 
 -- No current code is above the limit of constants
 abbrev pub within_limit : Codes → Type 0
-within_limit c = every (λ p. leb p.current 2147483647) (take c.count c.pairs) ≡ true
+within_limit c = every (λ p. leb p.current 2147483647) (codes_in c) ≡ true

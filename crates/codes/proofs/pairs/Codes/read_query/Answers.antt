@@ -8,15 +8,15 @@ use lib.Seq.{length-take-le}
 use Rattle.lists.proofs.Loops.{mapped-length}
 use Rattle.query.specs.declared.Cell.{Cell}
 use Rattle.query.specs.Types.{Query}
-use Rattle.query.specs.View.{query_of, pair_of}
+use Rattle.query.specs.View.{query_of}
 use Rattle.query.specs.Rule.{good_query, head_in_use}
 use Rattle.query.proofs.Good.{good-query}
 use Rattle.query.proofs.Shape.{SizedFor}
 use Rattle.theory.specs.Codes.{CodePair}
-use Rattle.codes.specs.internal.Codes.{read_cell, read_rows}
+use Rattle.codes.specs.internal.Codes.{codes_in, read_cell, read_rows}
 use Rattle.query.proofs.Relations.{width-le}
 use Rattle.limits.specs.internal.Schema.{widths_in}
-use Rattle.codes.proofs.Reading.{query-read, query-good, few-heads}
+use Rattle.codes.proofs.Reading.{query-read, query-good, safe-read, few-heads}
 use Rattle.codes.proofs.pairs.Codes.read_query.Goals as goal
 
 sized : (q : Query) → length q.head ≡ 8 → length q.relations ≡ 12 → length q.cells ≡ 96 → SizedFor 12 q
@@ -59,16 +59,26 @@ pub returns-clause-query : goal.returns-clause-query
 returns-clause-query c =
     let q = c.args.q in
     let s = c.args.schema in
-    let pairs = take c.args.self.now.count c.args.self.now.pairs in
+    let ps = codes_in c.args.self.now in
     let fits = sized q (search (mapped-length, rules)) (search rules) (search (mapped-length, rules)) in
-    ap (query_of (widths_in s)) (made (map pair_of pairs) (widths_in s) q _ _ _ c.head_in_use.ensures c.read_cells.ensures c.read_rows.ensures)
-    ∙ query-read pairs (widths_in s) (width-le s.relations s.widths s.good) q fits c.requires
+    ap (query_of (widths_in s)) (made ps (widths_in s) q _ _ _ c.head_in_use.ensures c.read_cells.ensures c.read_rows.ensures)
+    ∙ query-read ps (widths_in s) (width-le s.relations s.widths s.good) q fits c.requires
 
 pub returns-clause-good : goal.returns-clause-good
 returns-clause-good c = λ limit.
     let q = c.args.q in
     let s = c.args.schema in
-    let pairs = take c.args.self.now.count c.args.self.now.pairs in
+    let ps = codes_in c.args.self.now in
     let fits = sized q (search (mapped-length, rules)) (search rules) (search (mapped-length, rules)) in
-    ap (good_query (widths_in s)) (made (map pair_of pairs) (widths_in s) q _ _ _ c.head_in_use.ensures c.read_cells.ensures c.read_rows.ensures)
-    ∙ query-good pairs (widths_in s) (width-le s.relations s.widths s.good) q fits c.requires limit
+    ap (good_query (widths_in s)) (made ps (widths_in s) q _ _ _ c.head_in_use.ensures c.read_cells.ensures c.read_rows.ensures)
+    ∙ query-good ps (widths_in s) (width-le s.relations s.widths s.good) q fits c.requires limit
+
+pub returns-clause-safe : goal.returns-clause-safe
+returns-clause-safe c = λ safe.
+    let q = c.args.q in
+    let s = c.args.schema in
+    let ps = codes_in c.args.self.now in
+    let fits = sized q (search (mapped-length, rules)) (search rules) (search (mapped-length, rules)) in
+    safe-read ps (widths_in s) q _
+    (ap (query_of (widths_in s)) (made ps (widths_in s) q _ _ _ c.head_in_use.ensures c.read_cells.ensures c.read_rows.ensures)
+    ∙ query-read ps (widths_in s) (width-le s.relations s.widths s.good) q fits c.requires) safe
