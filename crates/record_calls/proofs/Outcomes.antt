@@ -17,7 +17,7 @@ use Rattle.theory.specs.Database as database
 use Rattle.theory.specs.Query.{◌∈◌}
 use Rattle.determination.specs.Determined.{determined}
 use Rattle.query.specs.View.{columns_of, mask_of}
-use Rattle.query.specs.Rule.{good_set, blank_dependency, good_relations, good_dependency, good_place, no_place}
+use Rattle.query.specs.Rule.{all_fit, good_set, blank_dependency, good_relations, good_dependency, good_place, no_place}
 use Rattle.query.proofs.Good.{good-dependency, good-set}
 use Rattle.closure.specs.internal.Closure.{grow_mask, right_narrow}
 use Rattle.closure.proofs.Closure.{held-length, determined-mask, determined-count}
@@ -74,11 +74,14 @@ module _ (widths : List ℕ) where
 
 -- A record just opened
 pub opened-good : (relations : ℕ) (widths : List ℕ) → good_relations relations widths ≡ true → good_record (empty_record relations widths) ≡ true
-unfolding every
+unfolding every all_fit
 opened-good relations widths good =
     make-record (empty_record relations widths)
     (record {
       relations = good;
+      coded = omega arith;
+      codes = refl;
+      no-codes = refl;
       held = omega arith;
       dependencies = refl;
       joined = omega arith;

@@ -4,7 +4,7 @@ use Rattle.std.specs.Prelude.{Result, Ok, Err, not, ◌&&◌, List, [], ◌∷�
 use Rattle.lists.specs.Tests.{between, every}
 use Rattle.determination.specs.Determined.{determined}
 use Rattle.query.specs.View.{columns_of, mask_of}
-use Rattle.query.specs.Rule.{good_set, no_dependency, no_join, no_place}
+use Rattle.query.specs.Rule.{good_set, no_pair, no_dependency, no_join, no_place}
 use Rattle.refusals.specs.Refusals.{bad_dependency, bad_relations, Condition, first_holding, Reply, refused, gives, reply}
 use Rattle.record.specs.declared.Record.{Record}
 use Rattle.record.specs.View.{schema_of, dependencies_of}
@@ -15,12 +15,14 @@ use Rattle.refusals.specs.Refusal.{number_of}
 
 -- ---- open
 
--- A record of the given relations, no dependencies, all places vacant
+-- A record of the given relations, no pairs of codes, no dependencies, all places vacant
 abbrev pub empty_record : ℕ → List ℕ → Record
 empty_record relations widths =
     record {
       relations = relations;
       widths = widths;
+      coded = 0;
+      codes = replicate 16 no_pair;
       held = 0;
       dependencies = replicate 32 no_dependency;
       joined = 0;
@@ -36,7 +38,7 @@ blank_record = empty_record 0 (replicate 8 0)
 abbrev pub open_conditions : List ℕ → List Condition
 open_conditions widths = (not (between 1 8 (length widths) && every (between 1 8) widths), bad_relations) ∷ []
 
--- Open a record from relation widths, no dependencies, all places vacant
+-- Open a record from relation widths, no pairs of codes, no dependencies, all places vacant
 unfoldable pub open_record : List ℕ → Reply (Unit {0}) × Record
 open_record widths =
     concluded (first_holding (open_conditions widths)) blank_record

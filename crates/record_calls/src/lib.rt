@@ -16,16 +16,19 @@ pub struct Columns {
     pub count: u8,
 }
 
-// A record of the given relations, without dependencies, all places vacant.
+// A record of the given relations, without pairs of codes or dependencies, all places vacant.
 fn opened(relations: u8, widths: [u8; 8]) -> Record
     ensures { result ≡ empty_record relations widths }
 {
+    let unrenumbered = query::NO_CODE_PAIR;
     let unused = query::NO_DEPENDENCY;
     let unjoined = query::NO_JOIN_DEPENDENCY;
     let vacant = no_place();
     Record {
         relations,
         widths,
+        coded: 0,
+        codes: [unrenumbered; 16],
         held: 0,
         dependencies: [unused; 32],
         joined: 0,
