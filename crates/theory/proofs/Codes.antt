@@ -20,7 +20,7 @@ use Rattle.theory.specs.Codes.{CodePair, read_code, read_entry, read_head, read_
 use Rattle.theory.specs.CodeTheorems.{OldCodesBelow}
 use Rattle.theory.proofs.Lists.{bool_cases, list_cases, map-agree, not-mem-member}
 use Rattle.theory.proofs.Entries.{EachEntry, constant-variable, constant-same, mem-variables_of, variables_of-mem, row_entries-map, row-row_entries}
-use Rattle.theory.proofs.Members.{some-of-member, row-of-entry}
+use Rattle.theory.proofs.Members.{◌⊆◌, some-of-member, member-of-some, row-of-entry, row_entries-part}
 use Rattle.theory.proofs.Carry.{map_row-id}
 use Rattle.theory.proofs.Replacement.{map_query-rows-fit}
 use Rattle.theory.proofs.Chase.{chases-entries, chases-mapping}
@@ -111,6 +111,15 @@ each-without ps q all = record {
   of-rows = λ n at.
       let from = row-of-entry q.rows at in
       all (some-of-member q.rows from.1) (constant n) (Memᴰ.append_right q.head at) n refl;
+}
+
+-- The same head and some of the rows have no old code either
+pub current-part : (ps : List CodePair) (q q' : Query) → q'.head ≡ q.head → q'.rows ⊆ q.rows → QueryWithoutOld ps q → QueryWithoutOld ps q'
+current-part ps q q' same part without = record {
+  of-head = λ some n at.
+      let first = member-of-some q'.rows some in
+      without.of-head (some-of-member q.rows (part first.0 first.1)) n (subst (λ es. constant n ∈ es) same at);
+  of-rows = λ n at. without.of-rows n (row_entries-part part (constant n) at);
 }
 
 read-no-old : (ps : List CodePair) → CurrentStay ps → (x : Entry) → NoOld ps (read_entry ps x)
