@@ -4,11 +4,9 @@
 --   1. Cores. A core mapped into some of its own rows needs as many of them as it has: otherwise, by the pigeonhole principle, one of its rows could go.
 --   2. Answers. A result has the answers of the chased query, since each maps to the other; so those of the source. A mapping leads from the source to it.
 --      Two results map to each other, so by 1 they have equally many rows.
--- 3. Minimality. Freeze the result T. Its head is an answer of T there, so of a rival R, by some α. The α-images of R's rows are a part of the frozen
--- T, so they obey the
--- dependencies; the head is an answer of R on them alone, so of T, by some β. Thawed, β maps T into as many of its rows as R has. By 1, R has no
--- fewer rows than T.
---      R is not chased, and its constants may be any.
+--   3. Minimality, over a class of databases that obey, with all parts of the frozen result T. Its head is an answer of T there, so of a rival R, by some α. The
+--      α-images of R's rows are a part of the frozen T, so of the class; the head is an answer of R on them alone, so of T, by some β. Thawed, β maps T into as
+--      many of its rows as R has. By 1, R has no fewer rows than T. R is not chased, and its constants may be any.
 -- 4. What a result keeps. It has at most as many rows as the source, and its variables and constants. A mapping that fixes the head keeps each head
 -- variable in a row.
 --   5. Losing rows one at a time leads to every result, up to the order of rows.

@@ -40,16 +40,16 @@ ResultMinimal = (widths : List ℕ) (ds : List Dependency) (S T : Query) → Row
 abbrev pub ResultIsRival : Type 0
 ResultIsRival = (widths : List ℕ) (ds : List Dependency) (S T : Query) → Reduction ds S T → Rival (Legal widths ds) S T
 
--- So over any class of databases that obey and that has all whose rows are some of the result's, read as numbers. No other database is needed
+-- So all results have equally many rows
+abbrev pub ResultsSameSize : Type 0
+ResultsSameSize = (ds : List Dependency) (S T U : Query) → Reduction ds S T → Reduction ds S U → length T.rows ≡ length U.rows
+
+-- No rival has fewer rows over any class of databases that obey, if each database whose rows are rows of the result, read as numbers, is of the class
 abbrev pub ResultMinimalOver : Type 1
 ResultMinimalOver =
     (C : Database → Type 0) (ds : List Dependency) (S T : Query) (base : ℕ) → ((D : Database) → C D → Obeys ds D)
     → ConstantsBelow base T → ((D : Database) → ((r : Row ℕ) → r ∈ D → r ∈ frozen_rows base T) → C D)
     → Reduction ds S T → Minimal C S T
-
--- So all results have equally many rows
-abbrev pub ResultsSameSize : Type 0
-ResultsSameSize = (ds : List Dependency) (S T U : Query) → Reduction ds S T → Reduction ds S U → length T.rows ≡ length U.rows
 
 -- Unless it is never, a result receives a mapping from the source query
 abbrev pub ResultMaps : Type 0
