@@ -66,32 +66,33 @@ module _ (widths : List ℕ) (js : List JoinDependency) (fit : JoinsFit widths j
       (λ new. mem-cases new (λ here. subst (FitsSchema widths) (sym here) (added-fits a)) (λ later. absurd (Memᴰ.not-nil later)))
       (Memᴰ.append_cases q.rows at)
 
-  -- An entry is one of a row that was there, or what can be said of those that are yielded
-  added-from : {rows : List (Row Entry)} {r : Row Entry} → Added widths js rows r → (e : Entry) → e ∈ row_entries (rows ++ r ∷ []) → (D : Type 0)
-      → ((a : Added widths js rows r) → e ∈ (yields widths a.dependency a.choice).values → D ⊎ (e ∈ row_entries rows)) → D ⊎ (e ∈ row_entries rows)
-  added-from {rows} {r} a e at D yielded =
+  -- An entry of the rows with one more is an entry of that, or one that was there
+  added-from : (rows : List (Row Entry)) (r : Row Entry) (e : Entry) (D : Type 0) → e ∈ row_entries (rows ++ r ∷ [])
+      → (e ∈ r.values → D ⊎ (e ∈ row_entries rows)) → D ⊎ (e ∈ row_entries rows)
+  added-from rows r e D at new =
       let from = row-of-entry (rows ++ r ∷ []) at in
       ⊎_elim
       (λ old. inr (row-row_entries rows from.0 e old from.2))
-      (λ new.
-      let same : from.0 ≡ yields widths a.dependency a.choice =
-      mem-cases new (λ here. here ∙ a.row) (λ later. absurd (Memᴰ.not-nil later)) in
-      yielded a (subst (λ (s : Row Entry). e ∈ s.values) same from.2))
+      (λ last. new (subst (λ (s : Row Entry). e ∈ s.values) (mem-cases last (λ here. here) (λ later. absurd (Memᴰ.not-nil later))) from.2))
       (Memᴰ.append_cases rows from.1)
 
   -- It brings no entry but constant 0,
   pub added-entry : {rows : List (Row Entry)} {r : Row Entry} → Added widths js rows r → (e : Entry) → e ∈ row_entries (rows ++ r ∷ [])
       → (e ≡ constant 0) ⊎ (e ∈ row_entries rows)
-  added-entry {rows} a e at =
-      added-from a e at (e ≡ constant 0) (λ a. yields-entry widths a.dependency a.choice rows a.tried.of-rows e)
+  added-entry {rows} {r} a e at =
+      added-from rows r e (e ≡ constant 0) at
+      (λ there. yields-entry widths a.dependency a.choice rows a.tried.of-rows e (subst (λ (s : Row Entry). e ∈ s.values) a.row there))
 
   -- and none at all where the rows fit the schema
   pub added-there : {rows : List (Row Entry)} {r : Row Entry} → ((r : Row Entry) → r ∈ rows → FitsSchema widths r) → Added widths js rows r
       → (e : Entry) → e ∈ row_entries (rows ++ r ∷ []) → e ∈ row_entries rows
-  added-there {rows} fits a e at =
+  added-there {rows} {r} fits a e at =
       ⊎_elim absurd (λ there. there)
-      (added-from a e at ⊥
-      (λ a there. inr (yields-there widths a.dependency a.choice rows (fit a.dependency a.held) fits a.tried a.together e there)))
+      (added-from rows r e ⊥ at
+      (λ there.
+      inr
+      (yields-there widths a.dependency a.choice rows (fit a.dependency a.held) fits a.tried a.together e
+      (subst (λ (s : Row Entry). e ∈ s.values) a.row there))))
 
   -- So what holds of each entry still does
   pub added-entries : (P : Entry → Type 0) (q : Query) {r : Row Entry} → Added widths js q.rows r → P (constant 0) ⊎ RowsFit widths q
@@ -106,7 +107,7 @@ module _ (widths : List ℕ) (js : List JoinDependency) (fit : JoinsFit widths j
       of-rows (inl holds) there = ⊎_elim (λ is. subst P (sym is) holds) old (added-entry a x there)
       of-rows (inr fits) there = old (added-there fits a x there)
 
-  -- nor any variable
+  -- It brings no variable
   pub added-variables : (q : Query) {r : Row Entry} → Added widths js q.rows r → (v : ℕ) → v ∈ variables (add_row q r) → v ∈ variables q
   added-variables q {r} a v at =
       mem-variables_of v (q.head ++ row_entries q.rows)
