@@ -5,8 +5,8 @@
 --   3. Each replacement is a mapping, and keeps the answers on every database that obeys the dependencies: an assignment into such a database
 --      gives the two entries the same value. A clash asks two different constants to be equal, so there was no answer.
 --   4. Where the chase rests no dependency is broken, so its result, read as a database, obeys them.
---   5. What the chase keeps: well-formed queries, the head's length, the number of rows, what holds of each entry, so constants below a base; it makes no
--- variable.
+--   5. What the chase keeps: well-formed queries, the head's length, the number of rows, what holds of each entry, so constants below a
+--      base; it makes no variable.
 -- Sections 2 to 5 are inductions on `Chases`; each law is stated of any chase first and then of `chase`. The survivor of a replacement is
 -- that of SPECIFICATION, The chase, and no law depends on which of the two it is. Assumes nothing.
 use mathlib.Core.Path.{◌≡◌, refl, sym, ◌∙◌, ap, subst}
@@ -285,7 +285,7 @@ each-constants base q all = record {
   of-rows = λ n at. all (constant n) (Memᴰ.append_right q.head at) n refl;
 }
 
--- Constant 0 is below it too
+-- Constant 0 is below it too, where it is above 0
 pub zero-below : (base : ℕ) → 0 < base → (n : ℕ) → constant 0 ≡ constant n → n < base
 zero-below base positive n is = let zero : 0 ≡ n = constant-same is in omega arith
 

@@ -329,6 +329,10 @@ forced-entry {rows} f =
     (λ there. inr (Memᴰ.cast (sym f.first_entry) there))
     (column-row_entries rows f.first f.dependency.right f.first-there)
 
+-- so a forced variable does
+pub forced-variable : {ds : List Dependency} {rows : List (Row Entry)} {y : Entry} {v : ℕ} → Forced ds rows (variable v) y → variable v ∈ row_entries rows
+forced-variable {v} f = ⊎_elim (λ default. absurd (constant-variable 0 v (sym default))) (λ there. there) (forced-entry f)
+
 -- Of different entries that are forced to be equal the second stands in the rows, if these fit a schema: then both columns are there, or neither is
 pub forced-there : {ds : List Dependency} {rows : List (Row Entry)} {x y : Entry} (widths : List ℕ)
     → ((r : Row Entry) → r ∈ rows → FitsSchema widths r) → Forced ds rows x y → x ≢ y → y ∈ row_entries rows
@@ -348,10 +352,6 @@ forced-there {rows} {x} {y} widths fit f other = go (dec_lt f.dependency.right (
         (other
         (sym f.first_entry ∙ get_or-eq_default f.first.values (constant 0) (omega (arith, wide))
         ∙ sym (get_or-eq_default f.second.values (constant 0) (omega arith)) ∙ f.second-entry))
-
--- so a forced variable does
-pub forced-variable : {ds : List Dependency} {rows : List (Row Entry)} {y : Entry} {v : ℕ} → Forced ds rows (variable v) y → variable v ∈ row_entries rows
-forced-variable {v} f = ⊎_elim (λ default. absurd (constant-variable 0 v (sym default))) (λ there. there) (forced-entry f)
 
 pub clash-replace : (v : ℕ) (e : Entry) → clash ≡ replace v e → ⊥
 clash-replace v e is = let z : ◌≡◌ {A = ℕ} 0 1 = cc in omega arith
