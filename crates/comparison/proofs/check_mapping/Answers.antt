@@ -1,40 +1,34 @@
--- `comparison::check_mapping` meets its contract: the refusals are those of two places, the rest is what `mapping::check` tells of the queries stored there.
+-- `comparison::check_mapping` meets its contract: the refusals are those of two places, the rest is what `mapping::check` tells of their queries and of the
+-- images, all as they are read.
 -- Assumes nothing.
-use mathlib.Core.Path.{sym, ap, ◌∙◌}
+use mathlib.Core.Path.{◌≡◌, sym, ap, ap₂, ◌∙◌}
+use mathlib.Core.Bool.{true}
+use mathlib.Core.List.{List}
+use Prim.Native.Nat.{ℕ}
+use native.Mathlib.Omega.{arith}
 use Rattle.refusals.specs.Refusal.{reply_of}
-use Rattle.comparison.proofs.Answers.{places-low, places-read, check-storable, checks-told}
+use Rattle.query.specs.View.{entries_of}
+use Rattle.theory.specs.Codes.{CodePair}
+use Rattle.record.proofs.Good.{good-record}
+use Rattle.comparison.specs.Comparison.{images_at}
+use Rattle.comparison.proofs.Pairs.{standing}
+use Rattle.comparison.proofs.Answers.{places-low, places-accepted, places-read, check-storable, checks-told}
+use Rattle.comparison.proofs.Images.{images-read}
 use Rattle.comparison.proofs.check_mapping.Goals as goal
 
-pub stored-requires : goal.stored-requires
-stored-requires c =
+pub query-target-requires : goal.query-target-requires
+query-target-requires c =
     let given = c.args.given in
-    let p = c.args.p in
-    let q = c.args.q in
     let is = sym c.filled_pair.ensures ∙ ap reply_of c.in_ok-first.was in
-    (places-low given p q _ _ is).1
+    let s = standing given _ _ (places-accepted given c.args.p c.args.q _ _ is) in
+    (s.low-p, s.good, s.filled-p)
 
-pub stored-requires-2 : goal.stored-requires-2
-stored-requires-2 c =
+pub query-source-requires : goal.query-source-requires
+query-source-requires c =
     let given = c.args.given in
-    let p = c.args.p in
-    let q = c.args.q in
     let is = sym c.filled_pair.ensures ∙ ap reply_of c.in_ok-first.was in
-    (places-low given p q _ _ is).0
-
-pub check-requires : goal.check-requires
-check-requires c =
-    let given = c.args.given in
-    let p = c.args.p in
-    let q = c.args.q in
-    let is = sym c.filled_pair.ensures ∙ ap reply_of c.in_ok-first.was in
-    let drawn = places-read given p q _ _ is c.stored-2.result c.stored.result c.stored-2.ensures c.stored.ensures in
-    check-storable given p q c.args.images _ _ drawn.0 drawn.1 drawn.2
+    let s = standing given _ _ (places-accepted given c.args.p c.args.q _ _ is) in
+    (s.low-q, s.good, s.filled-q)
 
 pub returns : goal.returns
-returns c =
-    let given = c.args.given in
-    let p = c.args.p in
-    let q = c.args.q in
-    let is = sym c.filled_pair.ensures ∙ ap reply_of c.in_ok-first.was in
-    let drawn = places-read given p q _ _ is c.stored-2.result c.stored.result c.stored-2.ensures c.stored.ensures in
-    checks-told given p q c.args.images _ _ drawn.0 drawn.1 drawn.2 c.check.result c.check.ensures
+returns c = ?
