@@ -7,29 +7,25 @@ use mathlib.Core.Logic.{◌≢◌, ◌⊎◌, inl, inr}
 use mathlib.Core.Bool.{Bool, true, false, cond}
 use mathlib.Core.List.{List, [], ◌∷◌}
 use mathlib.Core.Option.{Option, none, some}
-use Prim.Native.Nat.{ℕ, ◌*◌, ◌≤◌}
+use Prim.Native.Nat.{ℕ, ◌≤◌}
 use native.Mathlib.Omega.{arith}
 use lib.ListN.{length, get_or}
 use Rattle.refusals.specs.Refusals.{gives, reply}
 use Rattle.query.specs.declared.Cell.{Cell}
 use Rattle.query.specs.Types.{Query, Tableau}
-use Rattle.record.proofs.Kept.{empty-place}
 use Rattle.record.specs.declared.Record.{Record}
 use Rattle.query.specs.View.{query_of, as_query, images_of}
 use Rattle.record.specs.View.{schema_of, codes_of, dependencies_of, joins_of}
 use Rattle.lists.specs.Tests.{every, between}
-use Rattle.query.specs.Rule.{good_query, good_tableau, head_safe, good_place, no_place}
+use Rattle.query.specs.Rule.{good_tableau}
 use Rattle.record.specs.Rule.{good_record}
-use Rattle.record.specs.Calls.{is_filled, stored_at, query_at}
+use Rattle.record.specs.Calls.{query_at}
 use Rattle.record.specs.internal.Reading.{ReadAs}
 use Rattle.record.proofs.Good.{good-record}
 use Rattle.record.proofs.Reading.{read-current, read-below, read-formed}
 use Rattle.record.proofs.Meaning.{old-below}
-use Rattle.query.proofs.Good.{good-query}
 use Rattle.record.proofs.Stored as stored
-use Rattle.query.proofs.Stored as query-stored
 use Rattle.chase.proofs.Callers.{good-widths}
-use Rattle.lists.proofs.Positions.{every-get_or-else}
 use Rattle.theory.specs.Query as theory
 use Rattle.theory.specs.Answer as answer
 use Rattle.theory.specs.Containment as containment

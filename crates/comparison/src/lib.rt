@@ -1,9 +1,9 @@
 // Comparing two places of a record, and checking a mapping between their queries.
 #![tactic(auto)]
 
-ghost use Rattle.std.specs.Prelude.{◌≡◌, ◌≤◌, take};
-ghost use Rattle.theory.specs.Query.{variables_of, row_entries};
-ghost use Rattle.query.specs.View.{entries_of, rows_of};
+ghost use Rattle.std.specs.Prelude.{◌≡◌, ◌≤◌};
+ghost use Rattle.query.specs.View.{entries_of};
+ghost use Rattle.comparison.specs.internal.Images.{row_variables, image_read};
 ghost use Rattle.limits.specs.internal.Schema.{widths_in};
 ghost use Rattle.codes.specs.internal.Codes.{codes_in};
 ghost use Rattle.std.proofs.Math.Option.{none};
@@ -101,19 +101,31 @@ pub fn compare(given: Record, p: usize, q: usize) -> Result<Verdict, Refusal>
     compare_places(given, first, second)
 }
 
-// The images of a mapping from a query as they are read: those of its variables.
+// The image of variable v under a mapping from a query, as it is read: that of a variable which the query does not have stays.
+fn read_image(codes: &Codes, schema: Schema, source: Query, v: u8, image: Cell) -> Cell
+    requires { source.size ≤ 12 }
+    ensures { result ≡ image_read (codes_in codes.now) (row_variables (widths_in schema) source) v image }
+{
+    let read = codes.read_cell(image);
+    if read == image {
+        return image;
+    }
+    let named = &source.relations[..source.size as usize];
+    if schema.rows_have(named, &source.cells, v) {
+        read
+    } else {
+        image
+    }
+}
+
+// The images of a mapping from a query as they are read.
 fn read_images(codes: &Codes, schema: Schema, source: Query, images: [Cell; 96]) -> [Cell; 96]
     requires { source.size ≤ 12 }
-    ensures { entries_of result ≡ read_images (codes_in codes.now) (variables_of (row_entries (rows_of (widths_in schema) (take source.size source.relations)
-        source.cells))) 0 (entries_of images) }
+    ensures { entries_of result ≡ read_images (codes_in codes.now) (row_variables (widths_in schema) source) 0 (entries_of images) }
 {
-    let named = &source.relations[..source.size as usize];
     let mut all = images;
     for (v, image) in all.iter_mut().enumerate() {
-        let read = codes.read_cell(*image);
-        if read != *image && schema.rows_have(named, &source.cells, v as u8) {
-            *image = read;
-        }
+        *image = read_image(codes, schema, source, v as u8, *image);
     }
     all
 }

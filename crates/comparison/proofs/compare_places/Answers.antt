@@ -1,9 +1,8 @@
 -- `comparison::compare_places` meets its contract: each answer is one of the cases of `Answers`. Assumes nothing.
-use mathlib.Core.Path.{◌≡◌, refl, sym, ap, subst, ◌∙◌}
+use mathlib.Core.Path.{◌≡◌, refl, sym, ap, ◌∙◌}
 use mathlib.Core.Bool.{true}
 use lib.ListN.{length, take}
 use borrow.Author.Rules.{rules}
-use Rattle.record.specs.Calls.{stored_at}
 use Rattle.lists.specs.Tests.{every}
 use Rattle.query.specs.Rule.{shaped_join}
 use Rattle.lists.proofs.Loops.{mapped-length}
@@ -11,7 +10,6 @@ use Rattle.query.proofs.Shape.{SizedFor}
 use Rattle.tableaux.specs.internal.Tableaux.{tableau_of}
 use Rattle.join_rule.proofs.Shapes.{argument-shaped}
 use Rattle.join_chase.specs.internal.JoinChased.{IsJoinChased}
-use Rattle.mapping.specs.internal.Mapped.{Storable, Finds}
 use Rattle.record.specs.View.{schema_of}
 use Rattle.comparison.proofs.Pairs.{standing}
 use Rattle.comparison.proofs.Answers.{can-be-chased, parts-within, answers-over, both-storable, answers-never, answers-contained, answers-apart}
