@@ -8,8 +8,10 @@ use native.Mathlib.Numerals.{add-one}
 use native.Mathlib.Omega.{arith}
 use lib.Dec.{eqb}
 use borrow.Author.Tests.{eqb-true, eqb-false, eq-eqb, ne_eqb}
-use lib.ListN.{length, take, drop, get_or, get_or-map, length-drop}
-use lib.Seq.{get_or-take, get_or-drop, length-take-le}
+use lib.ListN.{length, take, drop, get_or, get_or-map, set, length-drop, length-set}
+use lib.Seq.{ext_get_or, get_or-take, get_or-drop, length-take-le, get_or-set_same, get_or-set_other}
+use mathlib.Core.Logic.{⊎_elim}
+use Rattle.lists.proofs.Tests.{below-or-past}
 use Rattle.std.proofs.lemmas.List as lists
 use Rattle.std.specs.List.{list_all, range_with_len}
 use Rattle.theory.specs.Query.{constant, column, map_row, same_entry}
@@ -62,6 +64,37 @@ pub span-column : (codes : List CodePair) (width : ℕ) (words : List ℕ) (at c
     → column (constant 0) (map_row constant (span_read codes width words at)) c ≡ constant (read_code codes (get_or words (at + 1 + c) 0))
 span-column codes width words at c h room =
     get_or-map constant (span_read codes width words at).values c 0 ∙ ap constant (span-value codes width words at c h room)
+
+-- The values of the row at a word, read up to column c
+pub record ReadTo (codes : List CodePair) (words : List ℕ) (at : ℕ) (row : List ℕ) (c : ℕ) : Type 0 where
+  pub size : length row ≡ 8
+  pub done : (d : ℕ) → d < c → get_or row d 0 ≡ read_code codes (get_or words (at + 1 + d) 0)
+
+module _ (codes : List CodePair) (words : List ℕ) (at : ℕ) (row : List ℕ) (c : ℕ) where
+  pub read-more : (x : ℕ) → ReadTo codes words at row c → c < 8 → x ≡ read_code codes (get_or words (at + 1 + c) 0) → ReadTo codes words at (set row c x) (c + 1)
+  read-more x r low is =
+      record {
+        size = length-set row c x ∙ r.size;
+        done =
+            λ d less. ⊎_elim
+            (λ before. get_or-set_other row c d x 0 (λ same. omega arith) ∙ r.done d before)
+            (λ past.
+            let same : d ≡ c = omega arith in
+            ap (λ (n : ℕ). get_or (set row c x) n 0) same ∙ get_or-set_same row c x 0 (omega (arith, r.size)) ∙ is
+            ∙ ap (λ (n : ℕ). read_code codes (get_or words (at + 1 + n) 0)) (sym same)) (below-or-past d c);
+      }
+
+  pub read-all : (width : ℕ) → ReadTo codes words at row c → width ≤ c → width ≤ 8 → at + 1 + width ≤ length words
+      → take width row ≡ (span_read codes width words at).values
+  read-all width r past narrow room =
+      let size : length (take width row) ≡ width = length-take-le width row (omega (arith, r.size)) in
+      let rest : length (drop (suc at) words) ≡ length words - suc at = length-drop (suc at) words in
+      let due : length (take width (drop (suc at) words)) ≡ width = length-take-le width (drop (suc at) words) (omega arith) in
+      let same : length (span_read codes width words at).values ≡ width = lists.length-map (take width (drop (suc at) words)) (read_code codes) ∙ due in
+      ext_get_or 0 (take width row) (span_read codes width words at).values (size ∙ sym same)
+      (λ d low.
+      let less : d < width = omega arith in
+      get_or-take width row d 0 less ∙ r.done d (omega arith) ∙ sym (span-value codes width words at d less room))
 
 module _ (codes : List CodePair) (width : ℕ) (words : List ℕ) (a b : ℕ) (room-a : a + 1 + width ≤ length words) (room-b : b + 1 + width ≤ length words) where
   -- whether the two rows agree on the columns of a mask that starts at column c

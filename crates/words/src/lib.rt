@@ -4,7 +4,7 @@
 // value, took 31 percent more instructions in a recursive search.
 #![tactic(auto)]
 
-ghost use Rattle.std.specs.Prelude.{◌≡◌, true, ◌+◌, ◌-◌, ◌/◌, ◌%◌, ◌^◌, ◌≤◌, ◌<◌, eqb, length, drop, get_or};
+ghost use Rattle.std.specs.Prelude.{◌≡◌, true, ◌+◌, ◌-◌, ◌/◌, ◌%◌, ◌^◌, ◌≤◌, ◌<◌, eqb, length, take, drop, get_or};
 ghost use Rattle.query.specs.View.{dependency_of};
 ghost use Rattle.codes.specs.internal.Codes.{codes_in};
 ghost use Rattle.theory.specs.Codes.{read_code};
@@ -105,6 +105,19 @@ pub fn value(codes: &Codes, words: &[u32], at: usize, column: usize) -> u32
     ensures { result ≡ read_code (codes_in codes.now) (get_or words.now (at + 1 + column) 0) }
 {
     codes.read(words[at + 1 + column])
+}
+
+// The values of the row of a database that begins at word `at`, as they are read.
+pub fn read_row(codes: &Codes, words: &[u32], width: usize, at: usize) -> [u32; 8]
+    requires { (at + 1 + width ≤ length words.now) × (width ≤ 8) }
+    ensures { take width result ≡ (span_read (codes_in codes.now) width words.now at).values }
+{
+    let mut row = [0; 8];
+    // Kept as it is: c is a column of the row at `at` and a place in `row`.
+    for c in 0..width {
+        row[c] = value(codes, words, at, c);
+    }
+    row
 }
 
 // Whether a set of columns has column c: bit c of its mask is set.
