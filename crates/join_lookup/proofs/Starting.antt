@@ -12,10 +12,11 @@ use Rattle.lists.proofs.Tests.{below-or-past}
 use Rattle.theory.specs.Query.{Row, column, FitsSchema}
 use Rattle.theory.specs.Database.{Database}
 use Rattle.words.specs.Words.{rows_from, spells_rows, database_of}
-use Rattle.words.specs.internal.Rows.{span_read, row_read, Next}
+use Rattle.words.specs.Broken.{nth_row}
+use Rattle.words.specs.internal.Rows.{span_read, row_at, row_read, Next}
 use Rattle.words.proofs.Spelling.{next_row, rows-spelled}
 use Rattle.grouping.specs.internal.Walked.{RowBegins}
-use Rattle.grouping.proofs.Passing.{placed-start, placed-next, placed_read}
+use Rattle.grouping.proofs.Passing.{placed-start, placed-next, placed_row, placed_read}
 use Rattle.join_lookup.specs.declared.Index.{Index}
 use Rattle.theory.specs.Codes.{CodePair}
 use Rattle.theory.specs.Codes.{read_code}
@@ -75,6 +76,10 @@ module _ (schema words : List ℕ) (good : spells_rows schema words ≡ true) wh
   pub start-next : (p : ℕ) → p < row_count schema words → Next schema words (start_of schema words p) (start_of schema words (suc p))
   unfolding start_of
   start-next p h = next-from (start_of schema words p) p (begins p (omega arith)) h
+
+  -- The row as it is written
+  pub start-written : (p : ℕ) → p < row_count schema words → nth_row (database_of schema words) p ≡ row_at schema words (start_of schema words p)
+  start-written p h = placed_row schema words (start_of schema words p) (start_of schema words (suc p)) p (begins p (omega arith)) (start-next p h)
 
   -- After the last row the words end
   pub start-end : start_of schema words (row_count schema words) ≡ length words
