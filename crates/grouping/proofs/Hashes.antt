@@ -58,7 +58,8 @@ module _ (codes : List CodePair) (factor width : ℕ) (words : List ℕ) (a : �
       let f : c + 1 ≡ suc c = omega arith in
       rw (e, columns-clear c (width - (c + 1)) mask clear, f)
 
-  pub hash-mix : (c mask h : ℕ) → c < width → a + 1 + width ≤ length words → mask % 2 ≡ 1 → hash_at c mask h ≡ hash_at (c + 1) (mask / 2) ((h * factor + read_code codes (get_or words (a + 1 + c) 0)) % 4294967296)
+  pub hash-mix : (c mask h : ℕ) → c < width → a + 1 + width ≤ length words → mask % 2 ≡ 1
+      → hash_at c mask h ≡ hash_at (c + 1) (mask / 2) ((h * factor + read_code codes (get_or words (a + 1 + c) 0)) % 4294967296)
   unfolding hash_at hash_from
   hash-mix c mask h l room bit =
       let e : width - c ≡ suc (width - (c + 1)) = omega arith in

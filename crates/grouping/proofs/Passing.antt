@@ -162,7 +162,8 @@ module _ (codes : List CodePair) (schema words : List ℕ) (d : Dependency) wher
         grouped s below leads = (leads.0 ∙ bucket-is, sym (h.table.tags s below) ∙ leads.1 ∙ tag_is)
 
         -- and has its right value
-        pub walked_same : (s : ℕ) → s < w.count → LeaderFor (key_of (dependency_of d) (database_read codes schema words) (length H) N) N q s → right_in N s ≡ q.right
+        pub walked_same : (s : ℕ) → s < w.count → LeaderFor (key_of (dependency_of d) (database_read codes schema words) (length H) N) N q s
+            → right_in N s ≡ q.right
             → Walked codes schema words d (record { at = after; number = row.number + 1 }) (record { count = w.count; least = w.least; key = false }) H N
         walked_same s below leads same =
             walked_on w.least false
@@ -182,7 +183,8 @@ module _ (codes : List CodePair) (schema words : List ℕ) (d : Dependency) wher
 
         module _ (absent : (s : ℕ) → s < w.count → LeaderFor (key_of (dependency_of d) (database_read codes schema words) (length H) N) N q s → ⊥) where
           alone : (s : ℕ) → s < w.count
-              → Together (length H) (dependency_of d) (leader_of (database_read codes schema words) N s) (nth_row (database_read codes schema words) row.number) → ⊥
+              → Together (length H) (dependency_of d) (leader_of (database_read codes schema words) N s) (nth_row (database_read codes schema words) row.number)
+              → ⊥
           alone s below t = absent s below (t.0 ∙ sym bucket-is, h.table.tags s below ∙ t.1 ∙ sym tag_is)
 
           -- it would be a leader, and there is no room for it
@@ -305,7 +307,8 @@ module _ (codes : List CodePair) (schema words : List ℕ) (d : Dependency) wher
       }
 
   -- all rows are passed
-  all-passed : (row : Position) (w : Walk) (H N : List ℕ) → Walked codes schema words d row w H N → length words ≤ row.at → length (database_read codes schema words) ≤ row.number
+  all-passed : (row : Position) (w : Walk) (H N : List ℕ) → Walked codes schema words d row w H N → length words ≤ row.at
+      → length (database_read codes schema words) ≤ row.number
   all-passed row w H N h end = omega (arith, read-length codes (database_of schema words), all-placed schema words row.at row.number h.placed end)
 
   -- no row before one that is not beyond the least is the first of a broken pair
@@ -353,7 +356,8 @@ module _ (codes : List CodePair) (schema words : List ℕ) (d : Dependency) wher
 
   -- what is known of a row's end is known where the walk goes on
   pub walked-next : (p r q : Position) (w : Walk) (H N : List ℕ) → r ≡ p → Next schema words p.at q.at → q.number ≡ p.number + 1
-      → ((after : ℕ) → Next schema words r.at after → Walked codes schema words d (record { at = after; number = r.number + 1 }) w H N) → Walked codes schema words d q w H N
+      → ((after : ℕ) → Next schema words r.at after → Walked codes schema words d (record { at = after; number = r.number + 1 }) w H N)
+      → Walked codes schema words d q w H N
   walked-next p r q w H N e next number f =
       subst (λ (n : ℕ). Walked codes schema words d (record { at = q.at; number = n }) w H N) (ap (λ (x : Position). x.number + 1) e ∙ sym number)
       (f q.at (subst (λ (x : Position). Next schema words x.at q.at) (sym e) next))
@@ -381,7 +385,8 @@ pub rest_all : (words : List ℕ) (at : ℕ) → take (length words - at) (drop 
 rest_all words at = let size : length (drop at words) ≡ length words - at = length-drop at words in take_all (length words - at) (drop at words) (omega arith)
 
 -- from the rows of a part of the words to those of all words
-pub skips-on : (codes : List CodePair) (schema words : List ℕ) (d : Dependency) (at i : ℕ) (p : Position) → From schema words at i → Skips codes schema (drop at words) d p
+pub skips-on : (codes : List CodePair) (schema words : List ℕ) (d : Dependency) (at i : ℕ) (p : Position) → From schema words at i
+    → Skips codes schema (drop at words) d p
     → From schema words (at + p.at) (i + p.number)
     × (first_pair_from (dependency_of d) i (database_read codes schema (drop at words)) ≡ first_pair_from (dependency_of d) (i + p.number)
     (database_read codes schema (drop (at + p.at) words)))

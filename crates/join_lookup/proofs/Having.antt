@@ -21,7 +21,8 @@ use Rattle.join_lookup.proofs.Bits.{BitOf, column-bit, bit-column}
 pub with-column : (x : Index) (values : List ℕ) (c : ℕ) → c < x.width → column 0 (row_with x values) c ≡ get_or values c 0
 with-column x values c l = get_or-take x.width values c 0 l
 
-module _ (codes : List CodePair) (schema words : List ℕ) (good : spells_rows schema words ≡ true) (x : Index) (k : Known schema x) (at p : ℕ) (b : BeginsAt schema words at p) where
+module _ (codes : List CodePair) (schema words : List ℕ) (good : spells_rows schema words ≡ true) (x : Index) (k : Known schema x) (at p : ℕ)
+    (b : BeginsAt schema words at p) where
   pub begins-inside : at < length words
   begins-inside = omega (arith, b.0, start-inside schema words good p b.1)
 
@@ -37,7 +38,8 @@ module _ (codes : List CodePair) (schema words : List ℕ) (good : spells_rows s
         of-column codes schema words good x k p b.1 begins-of c l ∙ ap (λ (n : ℕ). read_code codes (get_or words (n + 1 + c) 0)) (sym b.0)
 
     pub made-has : (columns : ℕ) (values : List ℕ) → columns < 256
-        → ((c : ℕ) → c < x.width → BitOf columns c → read_code codes (get_or words (at + 1 + c) 0) ≡ get_or values c 0) → Has codes schema words x columns values p
+        → ((c : ℕ) → c < x.width → BitOf columns c → read_code codes (get_or words (at + 1 + c) 0) ≡ get_or values c 0)
+        → Has codes schema words x columns values p
     made-has columns values small same = (
       begins-of,
       λ c there. ⊎_elim

@@ -17,7 +17,8 @@ pub record PutIn (codes : List CodePair) (words : List ℕ) (at mask : ℕ) (val
   pub new : (d : ℕ) → d < c → BitOf mask d → get_or row d 0 ≡ read_code codes (get_or words (at + 1 + d) 0)
   pub old : (d : ℕ) → (BitOf mask d → ⊥) → get_or row d 0 ≡ get_or values d 0
 
-pub put-here : (codes : List CodePair) (words : List ℕ) (at mask : ℕ) (values row : List ℕ) (c x : ℕ) → PutIn codes words at mask values row c → c < 8 → BitOf mask c
+pub put-here : (codes : List CodePair) (words : List ℕ) (at mask : ℕ) (values row : List ℕ) (c x : ℕ) → PutIn codes words at mask values row c → c < 8
+    → BitOf mask c
     → x ≡ read_code codes (get_or words (at + 1 + c) 0) → PutIn codes words at mask values (set row c x) (c + 1)
 put-here codes words at mask values row c x p h bit e =
     record {

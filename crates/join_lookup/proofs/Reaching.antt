@@ -106,7 +106,8 @@ module _ (codes : List CodePair) (schema words : List ℕ) (good : spells_rows s
           let l = table.link g.row (omega arith) h here.0 in
           from-leads (suc g.row) (get_or nodes (6 * at + 1 + t) 0)
           (subst (λ (n : ℕ). Leads codes schema words x t columns set n (suc g.row) (get_or nodes (6 * at + 1 + t) 0)) here.1
-          (subst (λ (n : ℕ). Leads codes schema words x t columns set (bucket_at codes schema words x columns g.row) (suc g.row) (get_or nodes (6 * n + 1 + t) 0))
+          (subst (λ (n : ℕ). Leads codes schema words x t columns set (bucket_at codes schema words x columns g.row) (suc g.row)
+          (get_or nodes (6 * n + 1 + t) 0))
           (sym g.place) l))
 
   -- Where a row begins the way has not ended
@@ -120,7 +121,8 @@ module _ (codes : List CodePair) (schema words : List ℕ) (good : spells_rows s
 
   -- On the way through table 0 no row passed has the values
   abbrev pub Passing : ℕ → List ℕ → ℕ → Type 0
-  Passing columns values at = (from : ℕ) × Reaches codes schema words x 0 columns 0 values from at × ((p : ℕ) → p < from → Has codes schema words x columns values p → ⊥)
+  Passing columns values at =
+      (from : ℕ) × Reaches codes schema words x 0 columns 0 values from at × ((p : ℕ) → p < from → Has codes schema words x columns values p → ⊥)
 
   module _ (columns : ℕ) (values : List ℕ) (at : ℕ) (w : Passing columns values at) where
     pass-before : (p : ℕ) → p < w.1.row → Has codes schema words x columns values p → ⊥
@@ -135,7 +137,8 @@ module _ (codes : List CodePair) (schema words : List ℕ) (good : spells_rows s
       suc w.1.row,
       g,
       λ p l has. ⊎_elim (λ low. pass-before p low has)
-          (λ high. let e : p ≡ w.1.row = omega arith in not-here (subst (λ (n : ℕ). Has codes schema words x columns values n) e has)) (below-or-past p w.1.row),
+          (λ high. let e : p ≡ w.1.row = omega arith in not-here (subst (λ (n : ℕ). Has codes schema words x columns values n) e has))
+          (below-or-past p w.1.row),
     )
 
     pub pass-end : length words ≤ at → FirstWith codes schema words x columns values at

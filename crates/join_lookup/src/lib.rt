@@ -1,6 +1,6 @@
 // Rows of a relation, looked up by their values in some columns as they are read: in tables, which are hash chains in lent slices, or, without tables, in the
-// words of the database: slower, and never wrong. Table 0 has all rows, by the columns of some set; table k + 1 those for set k of a join dependency, by columns
-// that sets before it have, and of rows with the same values in the set only the first. Chains go from earlier to later rows.
+// words of the database: slower, and never wrong. Table 0 has all rows, by the columns of some set; table k + 1 those for set k of a join dependency, by
+// columns that sets before it have, and of rows with the same values in the set only the first. Chains go from earlier to later rows.
 #![tactic(auto)]
 
 ghost use Rattle.std.specs.Prelude.{◌≡◌, true, false, List, ℕ, suc, ◌+◌, ◌*◌, ◌/◌, ◌%◌, ◌^◌, ◌≤◌, ◌<◌, length, take, get_or};

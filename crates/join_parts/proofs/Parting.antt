@@ -37,10 +37,15 @@ module _ (codes : List CodePair) (schema words : List ℕ) (j : JoinDependency) 
   D = database_read codes schema words
 
   -- A part without a choice obeys
-  part-obeys : (b : ℕ) → PartObeys codes schema words j x b → (part : List ℕ) × PartOf codes schema words x b part × ObeysJoin schema (join_of j) (database_read codes schema part)
+  part-obeys : (b : ℕ) → PartObeys codes schema words j x b → (part : List ℕ) × PartOf codes schema words x b part
+      × ObeysJoin schema (join_of j) (database_read codes schema part)
   part-obeys b p =
-      let sound = read-sound codes schema (database_of schema p.0) (rows-spelled schema p.0 p.1.spelled).1 in
-      (p.0, p.1, unbroken-obeys schema (join_of j) g.fits (database_read codes schema p.0) sound (none-breaks schema (join_of j) g.fits (database_read codes schema p.0) sound p.2))
+      let sound = read-sound codes schema (database_of schema p.0) (rows-spelled schema p.0 p.1.spelled).1 in (
+        p.0,
+        p.1,
+        unbroken-obeys schema (join_of j) g.fits (database_read codes schema p.0) sound
+            (none-breaks schema (join_of j) g.fits (database_read codes schema p.0) sound p.2),
+      )
 
   module _ (some : 0 < x.index.buckets) (small : x.columns < 256) (shared : SharedBy j x.columns) where
     module _ (r : Row ℕ) (fits : FitsSchema schema r) (relation : r.relation ≡ j.relation) where
@@ -67,7 +72,8 @@ module _ (codes : List CodePair) (schema words : List ℕ) (j : JoinDependency) 
           let place = in-get_or D (record { relation = 0; values = [] }) s.1 in
           let inside : place.0 < row_count schema words = omega (arith, place.1, read-length codes (database_of schema words)) in
           let there = of.whole place.0 inside
-          (in-part set at place.0 inside (ap (λ (t : Row ℕ). t.relation) place.2 ∙ s.2) (λ c in_set. ap (λ (t : Row ℕ). column 0 t c) place.2 ∙ s.3 c in_set)) in
+          (in-part set at place.0 inside (ap (λ (t : Row ℕ). t.relation) place.2 ∙ s.2) (λ c in_set. ap (λ (t : Row ℕ). column 0 t c) place.2 ∙ s.3 c in_set))
+          in
           (s.0, Memᴰ.cast (sym place.2) there, s.2, s.3)
 
     -- Where each part obeys, so do all rows

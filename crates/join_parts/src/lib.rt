@@ -1,6 +1,6 @@
-// The first of some join dependencies that rows as they are read do not obey, with its first choice of rows. The rows of a choice agree in the columns that all sets share, so
-// the relation is partitioned by them: where each part obeys the join dependency, the whole does. A part has few rows, and its tables stay in the cache. If
-// some part does not obey, or there are no parts, the whole is searched.
+// The first of some join dependencies that rows as they are read do not obey, with its first choice of rows. The rows of a choice agree in the columns that
+// all sets share, so the relation is partitioned by them: where each part obeys the join dependency, the whole does. A part has few rows, and its tables stay
+// in the cache. If some part does not obey, or there are no parts, the whole is searched.
 #![tactic(auto)]
 
 ghost use Rattle.std.specs.Prelude.{◌≡◌, true, List, ℕ, suc, ◌+◌, ◌-◌, ◌≤◌, ◌<◌, ◌++◌, length, map, take, drop, get_or};
@@ -100,7 +100,7 @@ fn put(words: &[u32], at: usize, n: usize, end: usize, buffer: &mut [u32])
     buffer[end - n..end].copy_from_slice(&words[at..at + n]);
 }
 
-// Copies the rows of part b to the end of the buffer, from the last to the first; they begin at the word that is returned.
+// Copies the rows of part b, as they are written, to the end of the buffer, from the last to the first; they begin at the word that is returned.
 fn gather(
     schema: &[u8],
     words: &[u32],

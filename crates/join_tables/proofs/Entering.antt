@@ -147,7 +147,8 @@ module _ (codes : List CodePair) (schema words : List ℕ) (good : spells_rows s
 
         -- The links, the row's too
         links : (q : ℕ) → p ≤ q → q < row_count schema words → Of codes schema words x q
-            → Leads codes schema words x t columns mask (bucket_at codes schema words x columns q) (suc q) (get_or linked (6 * start_of schema words q + 1 + t) 0)
+            → Leads codes schema words x t columns mask (bucket_at codes schema words x columns q) (suc q)
+            (get_or linked (6 * start_of schema words q + 1 + t) 0)
         links q past high ofq =
             ⊎_elim
             (λ less.
@@ -156,7 +157,8 @@ module _ (codes : List CodePair) (schema words : List ℕ) (good : spells_rows s
             (sym (get_or-set_other nodes spot (6 * start_of schema words q + 1 + t) (get_or heads (5 * b + t) 0) 0 (λ same. omega arith))) (table.link q less high ofq))
             (λ only.
             let e : p ≡ q = omega arith in
-            subst (λ (n : ℕ). Leads codes schema words x t columns mask (bucket_at codes schema words x columns n) (suc n) (get_or linked (6 * start_of schema words n + 1 + t) 0)) e
+            subst (λ (n : ℕ). Leads codes schema words x t columns mask (bucket_at codes schema words x columns n) (suc n)
+            (get_or linked (6 * start_of schema words n + 1 + t) 0)) e
             (subst (Leads codes schema words x t columns mask (bucket_at codes schema words x columns p) (suc p))
             (sym (get_or-set_same nodes spot (get_or heads (5 * b + t) 0) 0 (omega arith)))
             (subst (λ (n : ℕ). Leads codes schema words x t columns mask n (suc p) (get_or heads (5 * b + t) 0)) is (table.head b low))))
@@ -196,8 +198,10 @@ module _ (codes : List CodePair) (schema words : List ℕ) (good : spells_rows s
       λ i. record { relation = sym of i; values = v i }
 
   -- Where an earlier row has the same values in a set, the row may be left out
-  pub not_first : (k : Known schema x) (t mask p : ℕ) → p < row_count schema words → Of codes schema words x p → (values : List ℕ) → row_with x values ≡ row_of codes schema words p
-      → (t ≡ 0 → ⊥) → (first : ℕ) → FirstWith codes schema words x mask values first → (first ≡ start_of schema words p → ⊥) → LeftOut codes schema words x t mask p
+  pub not_first : (k : Known schema x) (t mask p : ℕ) → p < row_count schema words → Of codes schema words x p → (values : List ℕ)
+      → row_with x values ≡ row_of codes schema words p
+      → (t ≡ 0 → ⊥) → (first : ℕ) → FirstWith codes schema words x mask values first → (first ≡ start_of schema words p → ⊥)
+      → LeftOut codes schema words x t mask p
   not_first k t mask p h of values own some first f other =
       let own-has : Has codes schema words x mask values p = (of, λ c there. sym (ap (λ (r : Row ℕ). column 0 r c) own)) in
       let less : f.row < p =

@@ -34,7 +34,8 @@ roomy-beside words x b r =
 -- ---- 2. one table
 
 -- Rows from the one at word `at` on are in table t, nothing else is changed
-pub record Entered (codes : List CodePair) (schema words : List ℕ) (x : Index) (t columns mask : ℕ) (old-heads old-nodes heads nodes : List ℕ) (at : ℕ) : Type 0 where
+pub record Entered (codes : List CodePair) (schema words : List ℕ) (x : Index) (t columns mask : ℕ) (old-heads old-nodes heads nodes : List ℕ)
+    (at : ℕ) : Type 0 where
   pub row : ℕ
   pub place : at ≡ start_of schema words row
   pub inside : row ≤ row_count schema words

@@ -146,7 +146,8 @@ breaks-index {j = j} x y s k values ps b =
     }
 
 -- What a search finds does not depend on the tables
-pub searched-index : (codes : List CodePair) (schema words : List ℕ) (j : JoinDependency) (x y : Index) → SameRelation x y → (k : ℕ) (values : List ℕ) (found : Option (List ℕ))
+pub searched-index : (codes : List CodePair) (schema words : List ℕ) (j : JoinDependency) (x y : Index) → SameRelation x y
+    → (k : ℕ) (values : List ℕ) (found : Option (List ℕ))
     → Searched codes schema words j x k values found → Searched codes schema words j y k values found
 searched-index codes schema words j x y s k values None f =
     let t : SameRelation y x = record { relation = sym s.relation; width = sym s.width } in λ ps b. f ps (breaks-index y x t k values ps b)
@@ -162,10 +163,12 @@ searched-index codes schema words j x y s k values (Some at) f =
       },
     )
 
-module _ {codes : List CodePair} {schema words : List ℕ} (j r : JoinDependency) (k : ℕ) (a : Arranged j r (suc k)) (more : k < j.count) (g : Searchable schema words j)
+module _ {codes : List CodePair} {schema words : List ℕ} (j r : JoinDependency) (k : ℕ) (a : Arranged j r (suc k)) (more : k < j.count)
+    (g : Searchable schema words j)
     (h : Searchable schema words r) (x y : Index) (s : SameRelation x y) (values : List ℕ) where
   -- With the sets after k in another order the same row is missing, and with the same position for set k
-  pub breaks-arranged : (q : ℕ) (qs : List ℕ) → BreaksFrom codes schema words r x k values (q ∷ qs) → (ps : List ℕ) × BreaksFrom codes schema words j y k values (q ∷ ps)
+  pub breaks-arranged : (q : ℕ) (qs : List ℕ) → BreaksFrom codes schema words r x k values (q ∷ qs) → (ps : List ℕ)
+      × BreaksFrom codes schema words j y k values (q ∷ ps)
   breaks-arranged q qs b =
       let D : Database = database_read codes schema words in
       let low : k < r.count = omega (arith, a.count) in
@@ -195,7 +198,8 @@ module _ {codes : List CodePair} {schema words : List ℕ} (j r : JoinDependency
 -- ---- 3. the first choice
 
 -- Without tables everything that a search asks of them holds
-pub plain-indexed : {codes : List CodePair} {schema words : List ℕ} (j : JoinDependency) → Searchable schema words j → Indexed codes schema words j (plainly schema j) [] []
+pub plain-indexed : {codes : List CodePair} {schema words : List ℕ} (j : JoinDependency) → Searchable schema words j
+    → Indexed codes schema words j (plainly schema j) [] []
 plain-indexed {codes} {schema} j g =
     record {
       known = record { known = g.fits.known; width = refl; narrow = g.narrow; few = omega arith };
@@ -206,7 +210,8 @@ plain-indexed {codes} {schema} j g =
     }
 
 -- The index of a join dependency is of the relation that is tested
-pub index-plain : {codes : List CodePair} {schema words heads nodes : List ℕ} (j r : JoinDependency) (x : Index) → r.relation ≡ j.relation → Indexed codes schema words r x heads nodes
+pub index-plain : {codes : List CodePair} {schema words heads nodes : List ℕ} (j r : JoinDependency) (x : Index) → r.relation ≡ j.relation
+    → Indexed codes schema words r x heads nodes
     → SameRelation x (plainly schema j)
 index-plain {codes} {schema} j r x e i =
     record {
@@ -214,7 +219,8 @@ index-plain {codes} {schema} j r x e i =
       width = i.known.width ∙ ap (λ (n : ℕ). get_or schema n 0) (i.relation ∙ e);
     }
 
-module _ {codes : List CodePair} {schema words heads nodes : List ℕ} (j r : JoinDependency) (k : ℕ) (a : Arranged j r (suc k)) (more : k < j.count) (g : Searchable schema words j)
+module _ {codes : List CodePair} {schema words heads nodes : List ℕ} (j r : JoinDependency) (k : ℕ) (a : Arranged j r (suc k)) (more : k < j.count)
+    (g : Searchable schema words j)
     (h : Searchable schema words r) (x : Index) (i : Indexed codes schema words r x heads nodes) (values : List ℕ) where
   abbrev y : Index
   y = plainly schema j

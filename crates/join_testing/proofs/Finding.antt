@@ -54,7 +54,8 @@ module _ {codes : List CodePair} {schema words : List ℕ} {j : stored.JoinDepen
   -- What the search finds is the first choice
   pub searched-none : Searched codes schema words j x 0 values None → first_choice schema (join_of j) D ≡ none
   searched-none s =
-      unbroken-none schema (join_of j) g.fits D (read-sound codes schema (database_of schema words) (rows-spelled schema words g.spelled).1) (λ ps b. s ps (to-first ps b))
+      unbroken-none schema (join_of j) g.fits D (read-sound codes schema (database_of schema words) (rows-spelled schema words g.spelled).1)
+      (λ ps b. s ps (to-first ps b))
 
   pub searched-some : (at : List ℕ) (f : FirstFrom codes schema words j x 0 values at) → first_choice schema (join_of j) D ≡ some f.positions
   searched-some at f =

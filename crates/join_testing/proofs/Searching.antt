@@ -69,7 +69,8 @@ replicate-zero zero i = refl
 replicate-zero (suc n) zero = refl
 replicate-zero (suc n) (suc i) = replicate-zero n i
 
-module _ {codes : List CodePair} {schema words : List ℕ} {j : JoinDependency} {x : Index} {heads nodes : List ℕ} (g : Searchable schema words j) (i : Indexed codes schema words j x heads nodes) where
+module _ {codes : List CodePair} {schema words : List ℕ} {j : JoinDependency} {x : Index} {heads nodes : List ℕ} (g : Searchable schema words j)
+    (i : Indexed codes schema words j x heads nodes) where
   abbrev D : Database
   D = database_read codes schema words
 
@@ -184,7 +185,8 @@ module _ {codes : List CodePair} {schema words : List ℕ} {j : JoinDependency} 
 
     -- Positions that break it begin with one for this set
     breaks-chosen : (q : ℕ) (qs : List ℕ) (b : BreaksFrom codes schema words j x k values (q ∷ qs))
-        → (q < row_count schema words) × ((row_of codes schema words q).relation ≡ b.row.relation) × Agree 0 (columns_of mask) (row_of codes schema words q) b.row
+        → (q < row_count schema words) × ((row_of codes schema words q).relation ≡ b.row.relation)
+        × Agree 0 (columns_of mask) (row_of codes schema words q) b.row
         × GoWith (sets_from j (suc k)) D b.row qs
     breaks-chosen q qs b =
         let goes = subst (λ (l : List (List ℕ)). GoWith l D b.row (q ∷ qs)) (sets-cons k more) b.chosen in
@@ -204,7 +206,8 @@ module _ {codes : List CodePair} {schema words : List ℕ} {j : JoinDependency} 
         )
 
     -- Another row with the same values in the set does as well
-    breaks-other : (q p : ℕ) (qs : List ℕ) → p < q → Of codes schema words x p → Agree 0 (columns_of mask) (row_of codes schema words p) (row_of codes schema words q)
+    breaks-other : (q p : ℕ) (qs : List ℕ) → p < q → Of codes schema words x p
+        → Agree 0 (columns_of mask) (row_of codes schema words p) (row_of codes schema words q)
         → BreaksFrom codes schema words j x k values (q ∷ qs) → BreaksFrom codes schema words j x k values (p ∷ qs)
     breaks-other q p qs less of same b =
         let s = breaks-chosen q qs b in
@@ -359,7 +362,8 @@ module _ {codes : List CodePair} {schema words : List ℕ} {j : JoinDependency} 
 
     module _ (at : ℕ) (w : Going at) where
       -- What the search from the next set on finds decides
-      pub going-nothing : (row : List ℕ) → Joins codes schema words x mask w.1.row values row → Searched codes schema words j x (k + 1) row None → NoneBelow (suc w.1.row)
+      pub going-nothing : (row : List ℕ) → Joins codes schema words x mask w.1.row values row → Searched codes schema words j x (k + 1) row None
+          → NoneBelow (suc w.1.row)
       going-nothing row joins s =
           going-none at w row joins
           (λ qs b. s qs (subst (λ (n : ℕ). BreaksFrom codes schema words j x n row qs) (sym (add-one k)) b))
@@ -389,7 +393,8 @@ module _ {codes : List CodePair} {schema words : List ℕ} {j : JoinDependency} 
       go false t = leaf-none values wide k last end f (eqb-false end (length words) t)
 
 -- A row that has values begins with the relation
-pub has_word : (codes : List CodePair) {schema words : List ℕ} {j : JoinDependency} (x : Index) → Searchable schema words j → (columns : ℕ) (values : List ℕ) (at p : ℕ)
+pub has_word : (codes : List CodePair) {schema words : List ℕ} {j : JoinDependency} (x : Index) → Searchable schema words j
+    → (columns : ℕ) (values : List ℕ) (at p : ℕ)
     → BeginsAt schema words at p → Has codes schema words x columns values p → get_or words at 0 ≡ x.relation
 has_word codes {schema} {words} x g columns values at p b has =
     ap (λ (n : ℕ). get_or words n 0) b.0 ∙ sym (start-relation codes schema words g.spelled p b.1) ∙ has.0

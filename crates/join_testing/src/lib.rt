@@ -32,7 +32,8 @@ struct Tables<'a> {
 // words at which its rows begin.
 fn search(tables: &Tables, k: usize, filled: u8, values: [u32; 8]) -> Option<[usize; 4]>
     requires searchable { Searchable tables.now.schema.now tables.now.words.now tables.now.j
-        × Indexed (codes_in tables.now.codes.now) tables.now.schema.now tables.now.words.now tables.now.j tables.now.x tables.now.heads.now tables.now.nodes.now }
+        × Indexed (codes_in tables.now.codes.now) tables.now.schema.now tables.now.words.now tables.now.j tables.now.x
+        tables.now.heads.now tables.now.nodes.now }
     requires k_le_count { (k ≤ tables.now.j.count) × (filled ≡ filled_to tables.now.j.sets k) }
     ensures { Searched (codes_in tables.now.codes.now) tables.now.schema.now tables.now.words.now tables.now.j tables.now.x k values result }
 {

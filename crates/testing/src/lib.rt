@@ -1,5 +1,5 @@
-// The first of some dependencies that rows break as they are read, with its first pair of rows: one walk over the rows for each dependency, which skips to a row that
-// may be the first of a pair. A dependency whose left columns contain a key that an earlier walk has seen is obeyed, and needs no walk.
+// The first of some dependencies that rows break as they are read, with its first pair of rows: one walk over the rows for each dependency, which skips to
+// a row that may be the first of a pair. A dependency whose left columns contain a key that an earlier walk has seen is obeyed, and needs no walk.
 // The lent slices hold tables of `grouping`: the larger they are, the fewer walks. What they hold before does not matter.
 #![tactic(auto)]
 

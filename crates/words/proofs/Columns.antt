@@ -71,7 +71,8 @@ pub record ReadTo (codes : List CodePair) (words : List ℕ) (at : ℕ) (row : L
   pub done : (d : ℕ) → d < c → get_or row d 0 ≡ read_code codes (get_or words (at + 1 + d) 0)
 
 module _ (codes : List CodePair) (words : List ℕ) (at : ℕ) (row : List ℕ) (c : ℕ) where
-  pub read-more : (x : ℕ) → ReadTo codes words at row c → c < 8 → x ≡ read_code codes (get_or words (at + 1 + c) 0) → ReadTo codes words at (set row c x) (c + 1)
+  pub read-more : (x : ℕ) → ReadTo codes words at row c → c < 8 → x ≡ read_code codes (get_or words (at + 1 + c) 0)
+      → ReadTo codes words at (set row c x) (c + 1)
   read-more x r low is =
       record {
         size = length-set row c x ∙ r.size;
@@ -99,11 +100,13 @@ module _ (codes : List CodePair) (words : List ℕ) (at : ℕ) (row : List ℕ) 
 module _ (codes : List CodePair) (width : ℕ) (words : List ℕ) (a b : ℕ) (room-a : a + 1 + width ≤ length words) (room-b : b + 1 + width ≤ length words) where
   -- whether the two rows agree on the columns of a mask that starts at column c
   pub agree_from : ℕ → ℕ → Bool
-  agree_from c mask = agree (columns_from c (width - c) mask) (map_row constant (span_read codes width words a)) (map_row constant (span_read codes width words b))
+  agree_from c mask =
+      agree (columns_from c (width - c) mask) (map_row constant (span_read codes width words a)) (map_row constant (span_read codes width words b))
 
   -- the two rows have the same value in a column exactly when their words there are equal
   pub same-column : (c : ℕ) → c < width
-      → same_entry (column (constant 0) (map_row constant (span_read codes width words a)) c) (column (constant 0) (map_row constant (span_read codes width words b)) c)
+      → same_entry (column (constant 0) (map_row constant (span_read codes width words a)) c)
+      (column (constant 0) (map_row constant (span_read codes width words b)) c)
       ≡ eqb (read_code codes (get_or words (a + 1 + c) 0)) (read_code codes (get_or words (b + 1 + c) 0))
   unfolding same_entry
   same-column c h = rw (span-column codes width words a c h room-a, span-column codes width words b c h room-b)
@@ -122,22 +125,38 @@ module _ (codes : List CodePair) (width : ℕ) (words : List ℕ) (a b : ℕ) (r
       let f : c + 1 ≡ suc c = omega arith in
       rw (e, columns-clear c (width - (c + 1)) mask clear, f)
 
-  pub agree_same : (c mask : ℕ) → c < width → mask % 2 ≡ 1 → read_code codes (get_or words (a + 1 + c) 0) ≡ read_code codes (get_or words (b + 1 + c) 0) → agree_from c mask ≡ agree_from (c + 1)
+  pub agree_same : (c mask : ℕ) → c < width → mask % 2 ≡ 1 → read_code codes (get_or words (a + 1 + c) 0) ≡ read_code codes (get_or words (b + 1 + c) 0)
+      → agree_from c mask ≡ agree_from (c + 1)
       (mask / 2)
   unfolding agree_from agree
   agree_same c mask h bit same =
       let e : width - c ≡ suc (width - (c + 1)) = omega arith in
       let f : c + 1 ≡ suc c = omega arith in
-      rw (e, columns-set c (width - (c + 1)) mask bit, f, same-column c h, eq-eqb (read_code codes (get_or words (a + 1 + c) 0)) (read_code codes (get_or words (b + 1 + c) 0)) same)
+      rw (
+        e,
+        columns-set c (width - (c + 1)) mask bit,
+        f,
+        same-column c h,
+        eq-eqb (read_code codes (get_or words (a + 1 + c) 0))
+            (read_code codes (get_or words (b + 1 + c) 0)) same,
+      )
 
-  pub agree_differ : (c mask : ℕ) → c < width → mask % 2 ≡ 1 → (read_code codes (get_or words (a + 1 + c) 0) ≡ read_code codes (get_or words (b + 1 + c) 0) → ⊥) → agree_from c mask ≡ false
+  pub agree_differ : (c mask : ℕ) → c < width → mask % 2 ≡ 1 → (read_code codes (get_or words (a + 1 + c) 0) ≡ read_code codes (get_or words (b + 1 + c) 0) → ⊥)
+      → agree_from c mask ≡ false
   unfolding agree_from agree
   agree_differ c mask h bit differ =
       let e : width - c ≡ suc (width - (c + 1)) = omega arith in
-      rw (e, columns-set c (width - (c + 1)) mask bit, same-column c h, ne_eqb (read_code codes (get_or words (a + 1 + c) 0)) (read_code codes (get_or words (b + 1 + c) 0)) differ)
+      rw (
+        e,
+        columns-set c (width - (c + 1)) mask bit,
+        same-column c h,
+        ne_eqb (read_code codes (get_or words (a + 1 + c) 0))
+            (read_code codes (get_or words (b + 1 + c) 0)) differ,
+      )
 
   -- past column c, where a column of the mask is the same in both rows
-  pub agree-next : (mask c : ℕ) → c < width → (eqb (mask / 2 ^ c % 2) 1 ≡ true → read_code codes (get_or words (a + 1 + c) 0) ≡ read_code codes (get_or words (b + 1 + c) 0))
+  pub agree-next : (mask c : ℕ) → c < width
+      → (eqb (mask / 2 ^ c % 2) 1 ≡ true → read_code codes (get_or words (a + 1 + c) 0) ≡ read_code codes (get_or words (b + 1 + c) 0))
       → agree_from c (mask / 2 ^ c) ≡ agree_from (c + 1) (mask / 2 ^ (c + 1))
   agree-next mask c h same = go (eqb (mask / 2 ^ c % 2) 1) refl ∙ ap (λ (m : ℕ). agree_from (c + 1) m) (next-column mask c)
     where
@@ -151,13 +170,16 @@ module _ (codes : List CodePair) (width : ℕ) (words : List ℕ) (a b : ℕ) (r
 
   -- Whether each of n columns from c on is not of the mask or the same in both rows
   pub agree_all : (mask c n : ℕ) → n ≡ width - c
-      → list_all (λ k. not (eqb (mask / 2 ^ k % 2) 1) || eqb (read_code codes (get_or words (a + 1 + k) 0)) (read_code codes (get_or words (b + 1 + k) 0))) (range_with_len c n)
+      → list_all (λ k. not (eqb (mask / 2 ^ k % 2) 1) || eqb (read_code codes (get_or words (a + 1 + k) 0)) (read_code codes (get_or words (b + 1 + k) 0)))
+      (range_with_len c n)
       ≡ agree_from c (mask / 2 ^ c)
   agree_all mask c zero size = sym (agree-end c (mask / 2 ^ c) (omega arith))
   agree_all mask c (suc n) size =
-      go (eqb (mask / 2 ^ c % 2) 1) refl (eqb (read_code codes (get_or words (a + 1 + c) 0)) (read_code codes (get_or words (b + 1 + c) 0))) refl (agree_all mask (c + 1) n (omega arith))
+      go (eqb (mask / 2 ^ c % 2) 1) refl (eqb (read_code codes (get_or words (a + 1 + c) 0)) (read_code codes (get_or words (b + 1 + c) 0))) refl
+      (agree_all mask (c + 1) n (omega arith))
     where
-      go : (t : Bool) → eqb (mask / 2 ^ c % 2) 1 ≡ t → (u : Bool) → eqb (read_code codes (get_or words (a + 1 + c) 0)) (read_code codes (get_or words (b + 1 + c) 0)) ≡ u → {rest : Bool}
+      go : (t : Bool) → eqb (mask / 2 ^ c % 2) 1 ≡ t → (u : Bool)
+          → eqb (read_code codes (get_or words (a + 1 + c) 0)) (read_code codes (get_or words (b + 1 + c) 0)) ≡ u → {rest : Bool}
           → rest ≡ agree_from (c + 1) (mask / 2 ^ (c + 1)) → (not t || u) && rest ≡ agree_from c (mask / 2 ^ c)
       go true e true f later = later ∙ sym (agree-next mask c (omega arith) (λ _. eqb-true _ _ f))
       go true e false f later = sym (agree_differ c (mask / 2 ^ c) (omega arith) (eqb-true (mask / 2 ^ c % 2) 1 e) (eqb-false _ _ f))

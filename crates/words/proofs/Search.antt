@@ -47,7 +47,8 @@ module _ (codes : List CodePair) (schema words : List ℕ) where
   rows_end at n h = rw (drop_of_length-le words {i = at} h)
 
   -- the row at `at` and the rows after it
-  pub rows-cons : (at after n : ℕ) → Next schema words at after → rows_read codes schema words at n ≡ (n, row_read codes schema words at) ∷ rows_read codes schema words after (n + 1)
+  pub rows-cons : (at after n : ℕ) → Next schema words at after
+      → rows_read codes schema words at n ≡ (n, row_read codes schema words at) ∷ rows_read codes schema words after (n + 1)
   unfolding numbered_from
   rows-cons at after n next = rw (ap (read_database codes) next.read, add-one n)
 
@@ -71,7 +72,8 @@ module _ (codes : List CodePair) (schema words : List ℕ) where
   -- the pairs whose first row is the one at `at`, then the later ones
   pairs-cons : (d : Dependency) (at after n : ℕ) → Next schema words at after
       → first_pair_from d n (database_read codes schema (drop at words))
-      ≡ or_else (map (λ y. ((n, row_read codes schema words at), y)) (first_passing (breaks_with d (row_read codes schema words at)) (rows_read codes schema words after (n + 1))))
+      ≡ or_else (map (λ y. ((n, row_read codes schema words at), y))
+      (first_passing (breaks_with d (row_read codes schema words at)) (rows_read codes schema words after (n + 1))))
       (first_pair_from d (n + 1) (database_read codes schema (drop after words)))
   unfolding first_pair
   pairs-cons d at after n next = rw (rows-cons at after n next)
@@ -84,7 +86,8 @@ module _ (codes : List CodePair) (schema words : List ℕ) where
       (first_passing (breaks_with d (row_read codes schema words at)) (rows_read codes schema words after (n + 1))) h
     where
       go : (o : Option (ℕ × Row ℕ)) → Some j ≡ partner_of o
-          → pair_of (or_else (map (λ y. ((n, row_read codes schema words at), y)) o) (first_pair_from d (n + 1) (database_read codes schema (drop after words)))) ≡ Some (n, j)
+          → pair_of (or_else (map (λ y. ((n, row_read codes schema words at), y)) o)
+          (first_pair_from d (n + 1) (database_read codes schema (drop after words)))) ≡ Some (n, j)
       go none e = absurd (let z : ◌≡◌ {A = ℕ} 0 1 = cc in omega arith)
       go (some x) e = let q : x.0 ≡ j = cc in ap (λ (m : ℕ). Some (n, m)) q
 
@@ -92,7 +95,8 @@ module _ (codes : List CodePair) (schema words : List ℕ) where
       → None ≡ partner_of (first_passing (breaks_with d (row_read codes schema words at)) (rows_read codes schema words after (n + 1)))
       → first_pair_from d n (database_read codes schema (drop at words)) ≡ first_pair_from d (n + 1) (database_read codes schema (drop after words))
   unfolding or_else
-  pair-later d at after n next h = pairs-cons d at after n next ∙ go (first_passing (breaks_with d (row_read codes schema words at)) (rows_read codes schema words after (n + 1))) h
+  pair-later d at after n next h =
+      pairs-cons d at after n next ∙ go (first_passing (breaks_with d (row_read codes schema words at)) (rows_read codes schema words after (n + 1))) h
     where
       go : (o : Option (ℕ × Row ℕ)) → None ≡ partner_of o
           → or_else (map (λ y. ((n, row_read codes schema words at), y)) o) (first_pair_from d (n + 1) (database_read codes schema (drop after words)))

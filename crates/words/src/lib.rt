@@ -195,7 +195,8 @@ pub fn first_partner(
     requires testable { Testable schema.now d }
     requires a_value { (get_or words.now a 0 ≡ d.relation) × (a + 1 + get_or schema.now d.relation 0 ≤ length words.now) }
     requires from { From schema.now words.now from.at from.number }
-    ensures { result ≡ partner_of (first_passing (breaks_with (dependency_of d) (row_read (codes_in codes.now) schema.now words.now a)) (rows_read (codes_in codes.now) schema.now words.now from.at from.number)) }
+    ensures { result ≡ partner_of (first_passing (breaks_with (dependency_of d) (row_read (codes_in codes.now) schema.now words.now a))
+        (rows_read (codes_in codes.now) schema.now words.now from.at from.number)) }
 {
     let relation = d.relation as u32;
     let index = d.relation as usize;

@@ -19,7 +19,8 @@ use Rattle.grouping.proofs.Passing.{rows_few, walked_start, walked-next, walked-
 use Rattle.grouping.proofs.skip.Goals as goal
 
 -- What is said of a row, or of none, is said of the end at it
-ends_at : (codes : List CodePair) (schema words : List ℕ) (d : Dependency) (r : Option Position) (e : End Position) → e ≡ end_at r → SkipsTo codes schema words d r → Ends codes schema words d e
+ends_at : (codes : List CodePair) (schema words : List ℕ) (d : Dependency) (r : Option Position) (e : End Position) → e ≡ end_at r
+    → SkipsTo codes schema words d r → Ends codes schema words d e
 ends_at codes schema words d None e is h = subst (Ends codes schema words d) (sym is) h
 ends_at codes schema words d (Some p) e is h = subst (Ends codes schema words d) (sym is) h
 
@@ -43,7 +44,8 @@ loop-row-init c =
     let zeros : (b : ℕ) → b < length heads → get_or heads b 0 ≡ 0 = λ b h. c.fill.ensures.clones b 0 (omega (arith, c.fill.ensures.len)) refl in (
       ap (λ (r : Rows). r.schema.now) it ∙ c.each_row-row-items.ensures.0,
       ap (λ (r : Rows). r.words.now) it ∙ c.each_row-row-items.ensures.1,
-      subst (λ (p : Position). Walked C a.schema.now a.words.now a.d p (record { count = 0; least = length a.words.now; key = _ }) heads a.nodes.now) (sym place)
+      subst (λ (p : Position). Walked C a.schema.now a.words.now a.d p (record { count = 0; least = length a.words.now; key = _ }) heads a.nodes.now)
+          (sym place)
           (walked_start C a.schema.now a.words.now a.d heads a.nodes.now c.requires.words_value some zeros),
       refl,
       refl,

@@ -50,8 +50,10 @@ loop-left-preserved c = let a = c.args in
       subst (λ (n : ℕ). l.left / 2 < 2 ^ n) less (mask-half (a.width - l.c) l.left (omega arith) l.invariant.1),
       hash-low C 1000003 a.width W a.a l.c l.left l.h c.if-left-eq1.h l.invariant.2 (mixed-h (goal.at.loop-left-preserved c).Joined-left-eq1),
       hash-low C 2654435761 a.width W a.a l.c l.left l.tag c.if-left-eq1.tag l.invariant.3 (mixed-tag (goal.at.loop-left-preserved c).Joined-left-eq1),
-      l.invariant.4 ∙ hash-on C 1000003 a.width W a.a l.c l.left l.h c.if-left-eq1.h low c.requires.width_in_bounds (mixed-h (goal.at.loop-left-preserved c).Joined-left-eq1),
-      l.invariant.5 ∙ hash-on C 2654435761 a.width W a.a l.c l.left l.tag c.if-left-eq1.tag low c.requires.width_in_bounds (mixed-tag (goal.at.loop-left-preserved c).Joined-left-eq1),
+      l.invariant.4 ∙ hash-on C 1000003 a.width W a.a l.c l.left l.h c.if-left-eq1.h low c.requires.width_in_bounds
+          (mixed-h (goal.at.loop-left-preserved c).Joined-left-eq1),
+      l.invariant.5 ∙ hash-on C 2654435761 a.width W a.a l.c l.left l.tag c.if-left-eq1.tag low c.requires.width_in_bounds
+          (mixed-tag (goal.at.loop-left-preserved c).Joined-left-eq1),
     )
 
 pub returns-clause-value : goal.returns-clause-value
@@ -69,5 +71,6 @@ returns-clause-value c = let e = c in
     let tag : hash_from 2654435761 (columns_of a.d.left) 0 r ≡ l.tag =
     hash-start C 2654435761 a.width W a.a a.d.left s.requires.width_bound.0 s.requires.width_bound.1 ∙ l.invariant.5
     ∙ hash-end C 2654435761 a.width W a.a l.c l.left l.tag done in
-    let right : column 0 r a.d.right ≡ c.value.result = span-value C a.width W a.a a.d.right s.requires.width_bound.2 s.requires.width_in_bounds ∙ sym c.value.ensures in
+    let right : column 0 r a.d.right ≡ c.value.result =
+    span-value C a.width W a.a a.d.right s.requires.width_bound.2 s.requires.width_in_bounds ∙ sym c.value.ensures in
     sym (same (ap (spread a.buckets) h) tag right)

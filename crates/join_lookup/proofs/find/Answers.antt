@@ -12,8 +12,11 @@ use Rattle.join_lookup.proofs.find.Goals.{After-following-at}
 
 pub loop-at-init : goal.loop-at-init
 loop-at-init c = let s = c in
-    let a = s.args in
-    (s.requires.words_value.0, s.requires.words_value.1, (0, c.start-at.ensures (codes_in a.codes.now) 0 a.nodes.now s.requires.tabled, λ p l. absurd (omega arith)))
+    let a = s.args in (
+      s.requires.words_value.0,
+      s.requires.words_value.1,
+      (0, c.start-at.ensures (codes_in a.codes.now) 0 a.nodes.now s.requires.tabled, λ p l. absurd (omega arith)),
+    )
 
 pub has-requires-clause-by_index : goal.has-requires-clause-by_index
 has-requires-clause-by_index c = let a = c.args in
@@ -34,7 +37,8 @@ onward c = let s = c in
     let l = c in
     let w = l.loop-at.invariant in
     let size : length a.values ≡ 8 = search rules in
-    c.following-at.ensures (codes_in a.codes.now) a.columns 0 w.2.0 a.values a.heads.now s.ranges.columns.fits (omega (arith, w.1.narrow)) s.requires.tabled w.2.1
+    c.following-at.ensures (codes_in a.codes.now) a.columns 0 w.2.0 a.values a.heads.now s.ranges.columns.fits
+    (omega (arith, w.1.narrow)) s.requires.tabled w.2.1
 
 pub loop-at-smaller : goal.loop-at-smaller
 loop-at-smaller c = let s = c in
@@ -45,7 +49,8 @@ loop-at-smaller c = let s = c in
     omega (
       arith,
       i.loop-at-test.true,
-      reach-less (codes_in a.codes.now) a.schema.now a.words.now w.0 a.x w.1 0 a.columns 0 a.values w.2.1.row l.loop-at.at c.following-at.result w.2.1.place (onward (goal.at.loop-at-smaller c).After-following-at),
+      reach-less (codes_in a.codes.now) a.schema.now a.words.now w.0 a.x w.1 0 a.columns 0 a.values w.2.1.row l.loop-at.at c.following-at.result w.2.1.place
+          (onward (goal.at.loop-at-smaller c).After-following-at),
     )
 
 pub loop-at-preserved : goal.loop-at-preserved
@@ -58,7 +63,8 @@ loop-at-preserved c = let s = c in
     let w = l.loop-at.invariant in
     let p = w.2 in
     let n = pass-next (codes_in a.codes.now) a.schema.now a.words.now w.0 a.x w.1 a.columns a.values l.loop-at.at p
-    (h.has.ensures.by_index_3 w.2.1.row (pass-begins (codes_in a.codes.now) a.schema.now a.words.now w.0 a.x w.1 a.columns a.values l.loop-at.at p i.loop-at-test.true)
+    (h.has.ensures.by_index_3 w.2.1.row
+    (pass-begins (codes_in a.codes.now) a.schema.now a.words.now w.0 a.x w.1 a.columns a.values l.loop-at.at p i.loop-at-test.true)
     e.if-has.false)
     c.following-at.result (onward (goal.at.loop-at-preserved c).After-following-at) in
     (w.0, w.1, n)

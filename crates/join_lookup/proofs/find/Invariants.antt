@@ -10,7 +10,8 @@ use Rattle.codes.specs.internal.Codes.{codes_in}
 use Rattle.join_lookup.proofs.find.Given as goal
 
 abbrev pub invariant-loop-at : goal.invariant-loop-at
-invariant-loop-at l = (good : spells_rows l.schema l.words ≡ true) × (k : Known l.schema l.x) × Passing (codes_in l.codes) l.schema l.words good l.x k l.columns l.values l.at
+invariant-loop-at l =
+    (good : spells_rows l.schema l.words ≡ true) × (k : Known l.schema l.x) × Passing (codes_in l.codes) l.schema l.words good l.x k l.columns l.values l.at
 
 abbrev pub decreases-loop-at : goal.decreases-loop-at
 decreases-loop-at l = length l.words - l.at

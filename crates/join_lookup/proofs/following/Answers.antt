@@ -67,5 +67,6 @@ returns c = let s = c in
     let some : 0 < a.x.buckets = omega (arith, e.if-x-eq0.false) in
     λ pairs columns set from values heads small wide table g.
     let i = reach-inside pairs a.schema.now a.words.now s.requires.words_value.0 a.x s.requires.words_value.1 a.t columns set values from a.at p.0 p.1 g in
-    reach-link pairs a.schema.now a.words.now s.requires.words_value.0 a.x s.requires.words_value.1 a.t columns set values small wide some heads a.nodes.now from a.at
+    reach-link pairs a.schema.now a.words.now s.requires.words_value.0 a.x s.requires.words_value.1 a.t columns set values small wide some heads a.nodes.now
+    from a.at
     (table some) g i.1

@@ -20,7 +20,8 @@ room c = let s = c in
 pub returns-then-x-eq0 : goal.returns-then-x-eq0
 returns-then-x-eq0 c = let s = c in
     let a = s.args in
-    λ pairs set nodes table. reach-first pairs a.schema.now a.words.now s.requires.words_value.0 a.x s.requires.words_value.1 a.t a.columns set a.values c.if-x-eq0.true
+    λ pairs set nodes table. reach-first pairs a.schema.now a.words.now s.requires.words_value.0 a.x s.requires.words_value.1 a.t a.columns set a.values
+    c.if-x-eq0.true
 
 pub returns : goal.returns
 returns c = let s = c in

@@ -28,7 +28,8 @@ pub record Leads (codes : List CodePair) (schema words : List ℕ) (x : Index) (
   pub after : from ≤ row
   pub inside : row ≤ row_count schema words
   pub here : row < row_count schema words → Of codes schema words x row × (bucket_at codes schema words x columns row ≡ bucket)
-  pub passed : (p : ℕ) → from ≤ p → p < row → Of codes schema words x p → bucket_at codes schema words x columns p ≡ bucket → LeftOut codes schema words x t set p
+  pub passed : (p : ℕ) → from ≤ p → p < row → Of codes schema words x p → bucket_at codes schema words x columns p ≡ bucket
+      → LeftOut codes schema words x t set p
 
 -- Table t of the rows from position `from` on, by the columns of a set; rows that repeat another set's values may be left out
 pub record Table (codes : List CodePair) (schema words : List ℕ) (x : Index) (t columns set from : ℕ) (heads nodes : List ℕ) : Type 0 where

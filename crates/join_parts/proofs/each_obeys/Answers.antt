@@ -38,7 +38,8 @@ loop-b-preserved c =
             part,
             c.gather-start.ensures.part (codes_in a.codes.now) c.requires.chained,
             no_rows (first_choice a.schema.now (join_of a.j) (database_read (codes_in a.codes.now) a.schema.now part)) c.first_choice.result
-                (c.first_choice.ensures ∙ ap (λ (w : List ℕ). rows_chosen (first_choice a.schema.now (join_of a.j) (database_read (codes_in a.codes.now) a.schema.now w))) whole)
+                (c.first_choice.ensures ∙ ap (λ (w : List ℕ). rows_chosen
+                (first_choice a.schema.now (join_of a.j) (database_read (codes_in a.codes.now) a.schema.now w))) whole)
                 (sym c.is_some.ensures ∙ c.if-is_some.false),
           ))
           (below-or-past d l.b),

@@ -68,5 +68,7 @@ pub returns : goal.returns
 returns c = let l = c.loop-k in
     let e = c in
     let a = c.args in
-    sym (ap unmet_of (l.invariant.0 ∙ ap (λ (x : List database.JoinDependency). first_unmet_from l.k a.schema.now x (database_read (codes_in a.codes.now) a.schema.now a.words.now))
-    (ap (map join_of) (drop_of_length-le a.joins.now {i = l.k} e.loop-k-test.false)) ∙ unmet-end a.schema.now (database_read (codes_in a.codes.now) a.schema.now a.words.now) l.k))
+    sym (ap unmet_of (l.invariant.0
+    ∙ ap (λ (x : List database.JoinDependency). first_unmet_from l.k a.schema.now x (database_read (codes_in a.codes.now) a.schema.now a.words.now))
+    (ap (map join_of) (drop_of_length-le a.joins.now {i = l.k} e.loop-k-test.false))
+    ∙ unmet-end a.schema.now (database_read (codes_in a.codes.now) a.schema.now a.words.now) l.k))

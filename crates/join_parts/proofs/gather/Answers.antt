@@ -40,7 +40,8 @@ pub loop-link-smaller : goal.loop-link-smaller
 loop-link-smaller c =
     let l = c.loop-link in
     next-less c.requires.chained.0 c.args.schema.now c.args.words.now c.requires.words_value.0 c.args.x c.requires.words_value.1 c.args.b
-    l.link l.start l.buffer (l.invariant.0 c.requires.chained.0 c.requires.chained.1) c.loop-link-test.true c.args.heads.now c.args.links.now c.requires.chained.1
+    l.link l.start l.buffer (l.invariant.0 c.requires.chained.0 c.requires.chained.1) c.loop-link-test.true c.args.heads.now c.args.links.now
+    c.requires.chained.1
 
 pub loop-link-preserved : goal.loop-link-preserved
 loop-link-preserved c =

@@ -21,13 +21,16 @@ inside s =
     omega (arith, p.1.0, start-inside s.args.schema.now s.args.words.now s.requires.words_value.0 p.0 p.1.1)
 
 -- It is of the relation
-of : (c : Else-words-at) (p : ℕ) → BeginsAt c.args.schema.now c.args.words.now c.args.at p → Of (codes_in c.args.codes.now) c.args.schema.now c.args.words.now c.args.x.index p
+of : (c : Else-words-at) (p : ℕ) → BeginsAt c.args.schema.now c.args.words.now c.args.at p
+    → Of (codes_in c.args.codes.now) c.args.schema.now c.args.words.now c.args.x.index p
 of c p b =
-    start-relation (codes_in c.args.codes.now) c.args.schema.now c.args.words.now c.requires.words_value.0 p b.1 ∙ ap (λ (n : ℕ). get_or c.args.words.now n 0) (sym b.0)
+    start-relation (codes_in c.args.codes.now) c.args.schema.now c.args.words.now c.requires.words_value.0 p b.1
+    ∙ ap (λ (n : ℕ). get_or c.args.words.now n 0) (sym b.0)
     ∙ c.if-words-at.false
 
 -- Its part is that of its values
-bucketed : (c : After-bucket-b) (p : ℕ) → BeginsAt c.args.schema.now c.args.words.now c.args.at p → Of (codes_in c.args.codes.now) c.args.schema.now c.args.words.now c.args.x.index p
+bucketed : (c : After-bucket-b) (p : ℕ) → BeginsAt c.args.schema.now c.args.words.now c.args.at p
+    → Of (codes_in c.args.codes.now) c.args.schema.now c.args.words.now c.args.x.index p
     → c.bucket-b.result ≡ part_of c.args.x (row_of (codes_in c.args.codes.now) c.args.schema.now c.args.words.now p).values
 bucketed c p b o =
     let a = c.args in
@@ -53,8 +56,10 @@ pub read_row-values-requires : goal.read_row-values-requires
 read_row-values-requires c =
     let a = c.args in
     let p = c.requires.by_index in
-    let o = of (goal.at.read_row-values-requires c).Else-words-at p.0 p.1 in
-    (omega (arith, p.1.0, of_room (codes_in a.codes.now) a.schema.now a.words.now c.requires.words_value.0 a.x.index c.requires.words_value.1 p.0 p.1.1 o), c.requires.words_value.1.narrow)
+    let o = of (goal.at.read_row-values-requires c).Else-words-at p.0 p.1 in (
+      omega (arith, p.1.0, of_room (codes_in a.codes.now) a.schema.now a.words.now c.requires.words_value.0 a.x.index c.requires.words_value.1 p.0 p.1.1 o),
+      c.requires.words_value.1.narrow,
+    )
 
 pub offset_bounds-links-at : goal.offset_bounds-links-at
 offset_bounds-links-at c = omega (arith, inside (goal.at.offset_bounds-links-at c).Start, c.requires.room.2)
@@ -75,6 +80,8 @@ returns-clause-by_index_2 c p b chained =
     let o = of q.Else-words-at p b in
     let next : ℕ = get_or a.heads.now c.bucket-b.result 0 in
     subst
-    (λ (n : ℕ). Chained (codes_in a.codes.now) a.schema.now a.words.now a.x (Prim.Native.Nat.suc p) (set a.heads.now c.bucket-b.result (n + 1)) (set a.links.now n next)) (sym b.0)
-    (chained-in (codes_in a.codes.now) a.schema.now a.words.now a.x p a.heads.now a.links.now chained o c.bucket-b.result (bucketed q.After-bucket-b p b o) c.bucket-b.ensures.1
+    (λ (n : ℕ). Chained (codes_in a.codes.now) a.schema.now a.words.now a.x (Prim.Native.Nat.suc p) (set a.heads.now c.bucket-b.result (n + 1))
+    (set a.links.now n next)) (sym b.0)
+    (chained-in (codes_in a.codes.now) a.schema.now a.words.now a.x p a.heads.now a.links.now chained o c.bucket-b.result
+    (bucketed q.After-bucket-b p b o) c.bucket-b.ensures.1
     c.requires.room.0 (omega (arith, start-inside a.schema.now a.words.now c.requires.words_value.0 p b.1, c.requires.room.1)))

@@ -49,4 +49,5 @@ pub record PartOf (codes : List CodePair) (schema words : List ℕ) (x : Partiti
 
 -- Part b has no choice of rows that yields a row that is not there
 abbrev pub PartObeys : List CodePair → List ℕ → List ℕ → JoinDependency → Partition → ℕ → Type 0
-PartObeys codes schema words j x b = (part : List ℕ) × PartOf codes schema words x b part × (first_choice schema (join_of j) (database_read codes schema part) ≡ none)
+PartObeys codes schema words j x b =
+    (part : List ℕ) × PartOf codes schema words x b part × (first_choice schema (join_of j) (database_read codes schema part) ≡ none)

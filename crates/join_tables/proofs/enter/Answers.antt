@@ -50,7 +50,8 @@ pub loop-at-init : goal.loop-at-init
 loop-at-init c = let d = c in
     let s = d in
     let a = s.args in
-    entered-none (codes_in a.codes.now) a.schema.now a.words.now s.requires.words_value.0 a.x a.t a.columns a.set d.clear.new.heads a.nodes.now d.clear.ensures.by_index
+    entered-none (codes_in a.codes.now) a.schema.now a.words.now s.requires.words_value.0 a.x a.t a.columns a.set d.clear.new.heads a.nodes.now
+    d.clear.ensures.by_index
 
 pub overflow_mul-at : goal.overflow_mul-at
 overflow_mul-at c = let p = (goal.at.overflow_mul-at c).At-loop-at in

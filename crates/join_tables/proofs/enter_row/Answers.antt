@@ -37,7 +37,8 @@ of : (c : Else-words-at) (p : ℕ) → BeginsAt c.args.schema.now c.args.words.n
     → Of (codes_in c.args.codes.now) c.args.schema.now c.args.words.now c.args.x p
 of c p b = let s = c in
     let a = s.args in
-    start-relation (codes_in a.codes.now) a.schema.now a.words.now s.requires.words_value.0 p b.1 ∙ ap (λ (n : ℕ). get_or a.words.now n 0) (sym b.0) ∙ c.if-words-at.false
+    start-relation (codes_in a.codes.now) a.schema.now a.words.now s.requires.words_value.0 p b.1 ∙ ap (λ (n : ℕ). get_or a.words.now n 0) (sym b.0)
+    ∙ c.if-words-at.false
 
 -- Its values are read
 own : (c : After-read_row-values) (p : ℕ) → BeginsAt c.args.schema.now c.args.words.now c.args.at p
@@ -68,7 +69,8 @@ returns-then-words-at c = let s = c in
       beside = beside_same a.t a.heads.now a.nodes.now;
       by_index_2 =
           λ p b table.
-          table-other (codes_in a.codes.now) a.schema.now a.words.now s.requires.words_value.0 a.x s.requires.words_value.1 a.t a.columns a.set p b.1 a.heads.now a.nodes.now table
+          table-other (codes_in a.codes.now) a.schema.now a.words.now s.requires.words_value.0 a.x s.requires.words_value.1 a.t a.columns a.set p b.1
+          a.heads.now a.nodes.now table
           (λ is. c.if-words-at.true (ap (λ (n : ℕ). get_or a.words.now n 0) b.0
           ∙ sym (start-relation (codes_in a.codes.now) a.schema.now a.words.now s.requires.words_value.0 p b.1) ∙ is));
     }
@@ -76,8 +78,15 @@ returns-then-words-at c = let s = c in
 pub read_row-values-requires : goal.read_row-values-requires
 read_row-values-requires c = let s = c in
     let a = s.args in
-    let p = s.requires.by_index in
-    (omega (arith, p.1.0, of_room (codes_in a.codes.now) a.schema.now a.words.now s.requires.words_value.0 a.x s.requires.words_value.1 p.0 p.1.1 (of (goal.at.read_row-values-requires c).Else-words-at p.0 p.1)), s.requires.words_value.1.narrow)
+    let p = s.requires.by_index in (
+      omega (
+        arith,
+        p.1.0,
+        of_room (codes_in a.codes.now) a.schema.now a.words.now s.requires.words_value.0 a.x s.requires.words_value.1 p.0 p.1.1
+            (of (goal.at.read_row-values-requires c).Else-words-at p.0 p.1),
+      ),
+      s.requires.words_value.1.narrow,
+    )
 
 pub overflow_mul-nodes : goal.overflow_mul-nodes
 overflow_mul-nodes c = omega (arith, link-low (goal.at.overflow_mul-nodes c).Start)
@@ -104,11 +113,14 @@ returns-then-find-at c = let k = c in
       beside = linked-beside a.t s.requires.words_value.2 a.heads.now a.nodes.now a.at next;
       by_index_2 =
           λ p b table.
-          subst (λ (n : ℕ). Table (codes_in a.codes.now) a.schema.now a.words.now a.x a.t a.columns a.set p a.heads.now (set a.nodes.now (6 * n + 1 + a.t) next)) (sym b.0)
-          (table-out (codes_in a.codes.now) a.schema.now a.words.now s.requires.words_value.0 a.x s.requires.words_value.1 a.t a.columns a.set p b.1 a.heads.now a.nodes.now table
+          subst (λ (n : ℕ). Table (codes_in a.codes.now) a.schema.now a.words.now a.x a.t a.columns a.set p a.heads.now
+          (set a.nodes.now (6 * n + 1 + a.t) next)) (sym b.0)
+          (table-out (codes_in a.codes.now) a.schema.now a.words.now s.requires.words_value.0 a.x s.requires.words_value.1 a.t a.columns a.set p b.1 a.heads.now
+          a.nodes.now table
           (of q.Else-words-at p b) k.bucket-b.result (bucketed q.After-bucket-b p b (own q.After-read_row-values p b (of q.Else-words-at p b))) k.bucket-b.ensures.1 s.requires.roomy.heads-room s.requires.roomy.nodes-room s.requires.words_value.2
           (start-inside a.schema.now a.words.now s.requires.words_value.0 p b.1)
-          (not_first (codes_in a.codes.now) a.schema.now a.words.now s.requires.words_value.0 a.x s.requires.words_value.1 a.t a.set p b.1 (of q.Else-words-at p b)
+          (not_first (codes_in a.codes.now) a.schema.now a.words.now s.requires.words_value.0 a.x s.requires.words_value.1 a.t a.set p b.1
+          (of q.Else-words-at p b)
           k.read_row-values.result (own q.After-read_row-values p b (of q.Else-words-at p b)) c.if-t-ne0.true c.find.result c.find.ensures
           (λ same. c.if-find-at.true (same ∙ sym b.0))));
     }
@@ -144,7 +156,8 @@ returns c = let k = c in
           subst
           (λ (n : ℕ). Table (codes_in a.codes.now) a.schema.now a.words.now a.x a.t a.columns a.set p (set a.heads.now (5 * k.bucket-b.result + a.t) n)
           (set a.nodes.now (6 * n + 1 + a.t) next)) (sym b.0)
-          (table-in (codes_in a.codes.now) a.schema.now a.words.now s.requires.words_value.0 a.x s.requires.words_value.1 a.t a.columns a.set p b.1 a.heads.now a.nodes.now table
+          (table-in (codes_in a.codes.now) a.schema.now a.words.now s.requires.words_value.0 a.x s.requires.words_value.1 a.t a.columns a.set p b.1 a.heads.now
+          a.nodes.now table
           (of q.Else-words-at p b) k.bucket-b.result (bucketed q.After-bucket-b p b (own q.After-read_row-values p b (of q.Else-words-at p b))) k.bucket-b.ensures.1 s.requires.roomy.heads-room s.requires.roomy.nodes-room s.requires.words_value.2
           (start-inside a.schema.now a.words.now s.requires.words_value.0 p b.1));
     }

@@ -7,4 +7,5 @@ use Rattle.join_tables.proofs.fill.Given as goal
 
 abbrev pub invariant-loop-k : goal.invariant-loop-k
 invariant-loop-k l =
-    Levelled (codes_in l.codes) l.schema l.words l.fn.j l.x l.heads l.nodes l.filled l.k × (length l.heads ≡ length l.initial.heads) × (length l.nodes ≡ length l.initial.nodes)
+    Levelled (codes_in l.codes) l.schema l.words l.fn.j l.x l.heads l.nodes l.filled l.k × (length l.heads ≡ length l.initial.heads)
+    × (length l.nodes ≡ length l.initial.nodes)

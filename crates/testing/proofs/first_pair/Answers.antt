@@ -23,9 +23,11 @@ use Rattle.grouping.proofs.Passing.{rest_all, skips-on}
 use Rattle.testing.proofs.first_pair.Goals as goal
 
 -- Where the walk is after a skip to a row
-skipped : (C : List CodePair) (S X : List ℕ) (d : Dependency) (at i : ℕ) (r : End Position) (p : Position) → From S X at i → Ends C S (take (length X - at) (drop at X)) d r → r ≡ Found p
+skipped : (C : List CodePair) (S X : List ℕ) (d : Dependency) (at i : ℕ) (r : End Position) (p : Position) → From S X at i
+    → Ends C S (take (length X - at) (drop at X)) d r → r ≡ Found p
     → From S X (at + p.at) (i + p.number)
-    × (first_pair_from (dependency_of d) i (database_read C S (drop at X)) ≡ first_pair_from (dependency_of d) (i + p.number) (database_read C S (drop (at + p.at) X)))
+    × (first_pair_from (dependency_of d) i (database_read C S (drop at X)) ≡ first_pair_from (dependency_of d) (i + p.number)
+    (database_read C S (drop (at + p.at) X)))
 skipped C S X d at i r p f h e =
     skips-on C S X d at i p f
     (subst (λ (Y : List ℕ). Skips C S Y d p) (rest_all X at) (subst (Ends C S (take (length X - at) (drop at X)) d) e h).0)

@@ -12,7 +12,8 @@ use Rattle.testing.proofs.first_pair.Given as goal
 
 abbrev pub invariant-loop-place : goal.invariant-loop-place
 invariant-loop-place l = From l.schema l.words l.place.at l.place.number
-    × (first_pair_from (dependency_of l.d) 0 (database_read (codes_in l.codes) l.schema l.words) ≡ first_pair_from (dependency_of l.d) l.place.number (database_read (codes_in l.codes) l.schema (drop l.place.at l.words)))
+    × (first_pair_from (dependency_of l.d) 0 (database_read (codes_in l.codes) l.schema l.words) ≡ first_pair_from (dependency_of l.d) l.place.number
+    (database_read (codes_in l.codes) l.schema (drop l.place.at l.words)))
     × (length l.heads ≡ length l.initial.heads) × (length l.nodes ≡ length l.initial.nodes)
 
 abbrev pub decreases-loop-place : goal.decreases-loop-place

@@ -97,5 +97,7 @@ pub returns : goal.returns
 returns c =
     let l = c.loop-k in
     let a = c.args in
-    sym (ap violation_of (l.invariant.0 ∙ ap (λ (x : List database.Dependency). first_broken_from l.k x (database_read (codes_in a.codes.now) a.schema.now a.words.now))
-    (ap (map dependency_of) (drop_of_length-le a.dependencies.now {i = l.k} c.loop-k-test.false)) ∙ violation-end (database_read (codes_in a.codes.now) a.schema.now a.words.now) l.k))
+    sym (ap violation_of (l.invariant.0
+    ∙ ap (λ (x : List database.Dependency). first_broken_from l.k x (database_read (codes_in a.codes.now) a.schema.now a.words.now))
+    (ap (map dependency_of) (drop_of_length-le a.dependencies.now {i = l.k} c.loop-k-test.false))
+    ∙ violation-end (database_read (codes_in a.codes.now) a.schema.now a.words.now) l.k))

@@ -35,7 +35,8 @@ returns-then-breaks_at c =
     ap (λ (r : ℕ). span_read C (get_or S r 0) W at) here ∙ ap (λ (r : Position). span_read C width W r.at) (sym step.row) in
     let yes : t (l.row-iterator.place.number, row_read C S W at) ≡ true =
     ap₂ {C = Bool} (λ (x y : Row ℕ). breaks_rows (dependency_of a.d) x y) ra rb ∙ sym c.breaks_at.ensures ∙ c.if-breaks_at.true in
-    ap (λ (r : Position). Some r.number) step.row ∙ sym (ap partner_of (l.invariant.2 ∙ passing-here C S W t at c.next.new.self.place.at l.row-iterator.place.number step.next yes))
+    ap (λ (r : Position). Some r.number) step.row
+    ∙ sym (ap partner_of (l.invariant.2 ∙ passing-here C S W t at c.next.new.self.place.at l.row-iterator.place.number step.next yes))
 
 pub loop-row-preserved : goal.loop-row-preserved
 loop-row-preserved c =

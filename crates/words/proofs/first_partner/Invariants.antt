@@ -11,5 +11,7 @@ use Rattle.words.proofs.first_partner.Given as goal
 
 abbrev pub invariant-loop-row : goal.invariant-loop-row
 invariant-loop-row l = (l.row-iterator.schema.now ≡ l.schema) × (l.row-iterator.words.now ≡ l.words)
-    × (first_passing (breaks_with (dependency_of l.d) (row_read (codes_in l.codes) l.schema l.words l.a)) (rows_read (codes_in l.codes) l.schema l.words l.fn.from.at l.fn.from.number)
-    ≡ first_passing (breaks_with (dependency_of l.d) (row_read (codes_in l.codes) l.schema l.words l.a)) (rows_read (codes_in l.codes) l.schema l.words l.row-iterator.place.at l.row-iterator.place.number))
+    × (first_passing (breaks_with (dependency_of l.d) (row_read (codes_in l.codes) l.schema l.words l.a))
+    (rows_read (codes_in l.codes) l.schema l.words l.fn.from.at l.fn.from.number)
+    ≡ first_passing (breaks_with (dependency_of l.d) (row_read (codes_in l.codes) l.schema l.words l.a))
+    (rows_read (codes_in l.codes) l.schema l.words l.row-iterator.place.at l.row-iterator.place.number))
