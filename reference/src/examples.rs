@@ -241,11 +241,17 @@ fn the_longest_file() {
     for _ in 0..4 {
         record = record.add_join(&join).unwrap();
     }
+    assert_eq!(bytes(&record).len(), 4445);
+    for k in 0..16 {
+        record = record.add_code(CodePair { old: k, current: MAX_CONSTANT }).unwrap();
+    }
     let mut buffer = vec![9; 5000];
-    assert_eq!(write(&record, &mut buffer), Ok(4445));
-    assert_eq!(read(&buffer[..4445]), Ok(record.clone()));
-    assert!(buffer[4445..].iter().all(|&b| b == 9));
-    assert_eq!(write(&record, &mut buffer[..4444]), Err(10));
+    assert_eq!(write(&record, &mut buffer), Ok(4574));
+    assert_eq!(read(&buffer[..4574]), Ok(record.clone()));
+    assert!(buffer[4574..].iter().all(|&b| b == 9));
+    assert_eq!(write(&record, &mut buffer[..4573]), Err(10));
+    assert_eq!(record.add_code(CodePair { old: 16, current: MAX_CONSTANT }), Err(19));
+    assert_eq!(record.add_code(CodePair { old: 0, current: MAX_CONSTANT }), Err(18));
     assert_eq!(record.add_join(&join), Err(16));
     assert_eq!(record.add_join(&JoinDependency { relation: 8, ..join }), Err(15));
     assert_eq!(record.add(record.dependencies[0]), Err(13));
