@@ -26,3 +26,5 @@ mod examples;
 mod crosscheck;
 #[cfg(test)]
 mod mistakes;
+#[cfg(test)]
+mod code_mistakes;

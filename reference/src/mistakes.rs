@@ -601,7 +601,7 @@ fn wrong_test(m: JoinMistake, record: &Record, facts: &[Fact]) -> Tested {
     first.unwrap_or(Tested::Obeys)
 }
 
-fn each_is_shown_up<M: Copy + std::fmt::Debug>(none: M, all: &[M], wrong: impl Fn(M) -> usize) {
+pub fn each_is_shown_up<M: Copy + std::fmt::Debug>(none: M, all: &[M], wrong: impl Fn(M) -> usize) {
     assert_eq!(wrong(none), 0);
     let found: Vec<(M, usize)> = all.iter().map(|&m| (m, wrong(m))).collect();
     println!("{found:?}");

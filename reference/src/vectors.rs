@@ -279,6 +279,15 @@ fn any_query(r: &mut Random, widths: &[u8], codes: &[CodePair]) -> Query {
     q
 }
 
+/// A record, and a query to put into a place, which may break the rules.
+pub fn any_put(r: &mut Random) -> (Record, u8, Query) {
+    let record = record(r);
+    let p = place(r, &record, false);
+    let widths = if record.widths.is_empty() { vec![1] } else { record.widths.clone() };
+    let query = any_query(r, &widths, &record.codes);
+    (record, p, query)
+}
+
 /// Facts over few values; some obey all functional dependencies, but for a value that is changed at the end, some come from the rows of a query. Where there
 /// are pairs of codes, values are largely current codes first, and then old codes take the place of many.
 pub fn any_facts(r: &mut Random, record: &Record, query: Option<&Query>) -> Vec<Fact> {
@@ -427,6 +436,22 @@ pub fn any_database(r: &mut Random) -> (Record, Vec<u32>) {
     (record, words)
 }
 
+/// A record, a place, a database to evaluate its query on, and how many words the answers have, which are at most 400.
+pub fn any_evaluation(r: &mut Random) -> (Record, u8, Vec<u32>, usize) {
+    loop {
+        let record = filled_record(r);
+        let p = place(r, &record, true);
+        let query = record.places.get(p as usize).cloned().flatten();
+        let words = any_words(r, &record, query.as_ref());
+        let (Some(query), Ok(facts)) = (&query, facts(&record.widths, &words)) else { return (record, p, words, 0) };
+        let (query, facts) = (read_query(&record.codes, query), read_facts(&record.codes, &facts));
+        let due = answers_within(&query, &facts, 400).len() * query.head_length as usize;
+        if due <= 400 {
+            return (record, p, words, due);
+        }
+    }
+}
+
 /// A join dependency that may break the rules.
 fn any_join(r: &mut Random, widths: &[u8]) -> JoinDependency {
     if widths.is_empty() {
@@ -456,6 +481,16 @@ fn any_join(r: &mut Random, widths: &[u8]) -> JoinDependency {
         _ => {}
     }
     join
+}
+
+/// A record, two places, and what may be a mapping from the query of the second to that of the first.
+pub fn any_check(r: &mut Random) -> (Record, u8, u8, Mapping) {
+    let (record, p, q) = related_record(r);
+    let mut mapping = [Constant(0); VARIABLES];
+    if let Ok([t, s]) = record.filled([p, q]) {
+        mapping = any_mapping(r, &record.codes, s, t);
+    }
+    (record, p, q, mapping)
 }
 
 /// A mapping between the queries as they are read, or nearly one, with old codes for some current ones.
@@ -531,10 +566,7 @@ fn line(r: &mut Random, call: usize) -> Line {
             out.answer(record.add(d), |out, after| out.record(&after));
         }
         4 => {
-            let record = record(r);
-            let p = place(r, &record, false);
-            let widths = if record.widths.is_empty() { vec![1] } else { record.widths.clone() };
-            let query = any_query(r, &widths, &record.codes);
+            let (record, p, query) = any_put(r);
             out.record(&record);
             out.number(p);
             out.query(&query);
@@ -573,11 +605,7 @@ fn line(r: &mut Random, call: usize) -> Line {
             });
         }
         8 => {
-            let (record, p, q) = related_record(r);
-            let mut mapping = [Constant(0); VARIABLES];
-            if let Ok([t, s]) = record.filled([p, q]) {
-                mapping = any_mapping(r, &record.codes, s, t);
-            }
+            let (record, p, q, mapping) = any_check(r);
             out.record(&record);
             out.number(p);
             out.number(q);
@@ -609,19 +637,8 @@ fn line(r: &mut Random, call: usize) -> Line {
                 (0..4).for_each(|n| out.number(rows.get(n).copied().unwrap_or(0)));
             });
         }
-        11 => loop {
-            let record = filled_record(r);
-            let p = place(r, &record, true);
-            let query = record.places.get(p as usize).cloned().flatten();
-            let words = any_words(r, &record, query.as_ref());
-            let mut due = 0;
-            if let (Some(query), Ok(facts)) = (&query, facts(&record.widths, &words)) {
-                let (query, facts) = (read_query(&record.codes, query), read_facts(&record.codes, &facts));
-                due = answers_within(&query, &facts, 400).len() * query.head_length as usize;
-                if due > 400 {
-                    continue;
-                }
-            }
+        11 => {
+            let (record, p, words, due) = any_evaluation(r);
             let room = *r.pick(&[due, due, due.saturating_sub(1), due + 1, 0, due + 9, 400]);
             let mut buffer = vec![0; room];
             out.record(&record);
@@ -630,10 +647,9 @@ fn line(r: &mut Random, call: usize) -> Line {
             out.number(room);
             out.answer(evaluate(&record, p, &words, &mut buffer), |out, n| {
                 out.number(n);
-                out.list(&buffer[..n * query.unwrap().head_length as usize]);
+                out.list(&buffer[..n * record.places[p as usize].as_ref().unwrap().head_length as usize]);
             });
-            break;
-        },
+        }
         12 => {
             let record = filled_record(r);
             let p = place(r, &record, true);
