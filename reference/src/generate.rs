@@ -209,7 +209,7 @@ pub fn aliased(r: &mut Random, codes: &[CodePair], query: &Query, chance: usize)
 }
 
 /// The record with pairs of codes, for which constants of its queries are old and current ones: some that were different are read as one now, and of others
-/// old codes take the place.
+/// old codes take the place. Now and then such a constant stands where one variable stood in several rows.
 pub fn with_codes(r: &mut Random, mut record: Record) -> Record {
     let mut constants: Vec<u32> = vec![];
     for query in record.places.iter().flatten() {
@@ -225,6 +225,13 @@ pub fn with_codes(r: &mut Random, mut record: Record) -> Record {
     record.codes = codes(r, &constants, n);
     let chance = *r.pick(&[30, 70, 70, 100]);
     for query in record.places.iter_mut().flatten() {
+        for _ in 0..*r.pick(&[0, 0, 1, 2]) {
+            let variables = query.variables();
+            if !variables.is_empty() {
+                let (v, current) = (*r.pick(&variables), r.pick(&record.codes).current);
+                *query = substitute(query, |e| if e == Variable(v) { Constant(current) } else { e });
+            }
+        }
         *query = aliased(r, &record.codes, query, chance);
     }
     record
@@ -998,28 +1005,35 @@ fn damaged_codes(r: &mut Random, record: &Record) -> Vec<u8> {
     let n = r.between(1, MAX_CODES - 1);
     let mut all = if record.codes.is_empty() || r.percent(40) { codes(r, &[], n) } else { record.codes.clone() };
     match r.below(12) {
-        0..=4 => {
+        0..=5 => {
             // They come before or after the others, from which they keep apart.
             let bad = bad_pairs(r);
             let near: Vec<u32> = bad.iter().flat_map(|p| [p.old, p.current]).collect();
             all.retain(|p| !near.contains(&p.old) && !near.contains(&p.current));
             for p in bad {
-                all.insert(r.below(all.len() + 1), p);
+                all.insert(r.below(all.len().min(14) + 1), p);
             }
             all.truncate(MAX_CODES);
+            if r.percent(80) {
+                return codes_bytes(&all);
+            }
         }
-        5 => {
+        6 => {
             // One with a code of another.
             let (p, k, at) = (*r.pick(&all), r.below(all.len()), r.below(4));
             let (x, q) = (if at & 1 == 0 { p.old } else { p.current }, &mut all[k]);
             if at & 2 == 0 { q.old = x } else { q.current = x }
         }
-        6 => {
+        7 => {
             // 16 and 17, all good.
             let all = codes(r, &[], 17);
             return codes_bytes(&all[..r.between(16, 17)]);
         }
-        7 => return [&[*r.pick(&[0, 0, 1, 2, 16])][..], &vec![0; *r.pick(&[0, 0, 7, 8, 16])]].concat(),
+        8 | 9 => {
+            // Counts with pairs of zeros, or without any.
+            let (count, zeros) = *r.pick(&[(0, 0), (0, 0), (0, 0), (0, 8), (1, 0), (1, 7), (1, 8), (16, 128)]);
+            return [&[count][..], &vec![0; zeros]].concat();
+        }
         _ => {}
     }
     let mut out = codes_bytes(&all);
@@ -1037,6 +1051,19 @@ fn damaged_codes(r: &mut Random, record: &Record) -> Vec<u8> {
         _ => {}
     }
     out
+}
+
+/// A file with other bytes past the widths, and now and then a fault in the widths, the dependencies or another part.
+pub fn with_damaged_codes(r: &mut Random, record: &Record) -> Vec<u8> {
+    let bare = Record { codes: vec![], ..record.clone() };
+    let mut parts = record_parts(&bare);
+    if r.percent(45) {
+        let any = r.below(parts.len());
+        let k = *r.pick(&[0, 1, 1, any]);
+        damage_part(r, &bare, &mut parts, k);
+    }
+    parts[0].extend(damaged_codes(r, record));
+    join(&parts)
 }
 
 /// A file that is damaged, or just inside a limit.
@@ -1173,18 +1200,7 @@ pub fn damaged(r: &mut Random) -> Vec<u8> {
             fresh[1].extend(damaged_tail(r, &record));
             file = join(&fresh);
         }
-        19..=23 => {
-            // Other bytes past the widths, and now and then a fault in the widths, the dependencies or another part.
-            let bare = Record { codes: vec![], ..record.clone() };
-            let mut fresh = record_parts(&bare);
-            if r.percent(45) {
-                let any = r.below(fresh.len());
-                let k = *r.pick(&[0, 1, 1, any]);
-                damage_part(r, &bare, &mut fresh, k);
-            }
-            fresh[0].extend(damaged_codes(r, &record));
-            file = join(&fresh);
-        }
+        19..=23 => file = with_damaged_codes(r, &record),
         _ => {
             // One to three broken parts: the first in file order decides.
             for _ in 0..*r.pick(&[1, 1, 2, 3]) {
@@ -1235,6 +1251,8 @@ mod tests {
         let mut damaged_but_sound = 0;
         // Dependencies, those with an empty left set, records that have one, and the dependency of zeros alone, first or last.
         let (mut dependencies, mut empty_left, mut records, mut zeros) = (0, 0, 0, [0; 3]);
+        // Records without and with pairs of codes; of those 0 as an old code, 0 as a current one, a current code twice, 16 pairs, a query that reading changes.
+        let (mut plain, mut coded, mut kinds) = (0, 0, [0; 5]);
         for k in 0..3000 {
             let file = file(1, k);
             assert_eq!(file, super::file(1, k));
@@ -1248,6 +1266,18 @@ mod tests {
                     empty_left += of_record;
                     records += (of_record > 0) as usize;
                     for (n, is) in zeros.iter_mut().zip(stand_of_zeros(&record)) {
+                        *n += is as usize;
+                    }
+                    let codes = &record.codes;
+                    if codes.is_empty() { plain += 1 } else { coded += 1 }
+                    let of = [
+                        codes.iter().any(|p| p.old == 0),
+                        codes.iter().any(|p| p.current == 0),
+                        (0..codes.len()).any(|k| codes[..k].iter().any(|p| p.current == codes[k].current)),
+                        codes.len() == MAX_CODES,
+                        record.places.iter().flatten().any(|q| read_query(codes, q) != *q),
+                    ];
+                    for (n, is) in kinds.iter_mut().zip(of) {
                         *n += is as usize;
                     }
                 }
@@ -1265,5 +1295,7 @@ mod tests {
         assert!(empty_left * 20 > dependencies && empty_left * 6 < dependencies, "{empty_left} of {dependencies}");
         assert!(records > 450 && records < 900, "{records}");
         assert!(zeros.iter().all(|&n| n > 50), "{zeros:?}");
+        assert!(coded * 2 < plain && coded * 4 > plain, "{coded} {plain}");
+        assert!(kinds.iter().all(|&n| n * 10 > coded) && kinds[4] * 2 > coded, "{kinds:?} of {coded}");
     }
 }

@@ -602,10 +602,15 @@ fn wrong_test(m: JoinMistake, record: &Record, facts: &[Fact]) -> Tested {
 }
 
 pub fn each_is_shown_up<M: Copy + std::fmt::Debug>(none: M, all: &[M], wrong: impl Fn(M) -> usize) {
+    each_is_shown_up_by(3, none, all, wrong);
+}
+
+/// By so many inputs at least.
+pub fn each_is_shown_up_by<M: Copy + std::fmt::Debug>(least: usize, none: M, all: &[M], wrong: impl Fn(M) -> usize) {
     assert_eq!(wrong(none), 0);
     let found: Vec<(M, usize)> = all.iter().map(|&m| (m, wrong(m))).collect();
     println!("{found:?}");
-    assert!(found.iter().all(|&(_, n)| n >= 3), "{found:?}");
+    assert!(found.iter().all(|&(_, n)| n >= least), "{found:?}");
 }
 
 #[test]

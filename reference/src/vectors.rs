@@ -116,12 +116,15 @@ fn some_chased(r: &mut Random, record: &Record, query: &Query) -> Query {
     chased
 }
 
-/// A record in which two places hold queries that have to do with each other. Every other one has join dependencies.
+/// A record in which two places hold queries that have to do with each other. Every other one has join dependencies, and nearly every other one pairs of codes.
 pub fn related_record(r: &mut Random) -> (Record, u8, u8) {
     loop {
         let mut record = if r.percent(50) { generate::record_with_joins(r) } else { filled_record(r) };
         if record == Record::default() {
             return (record, r.below(9) as u8, r.below(9) as u8);
+        }
+        if record.codes.is_empty() && r.percent(25) {
+            record = generate::with_codes(r, record);
         }
         if r.percent(15) {
             let (p, q) = (place(r, &record, true), place(r, &record, true));
@@ -401,7 +404,7 @@ pub fn any_join_addition(r: &mut Random) -> (Record, JoinDependency) {
 pub fn any_code_addition(r: &mut Random) -> (Record, CodePair) {
     let mut record = record(r);
     if !record.widths.is_empty() && r.percent(50) {
-        let n = *r.pick(&[1, 2, 5, 15, MAX_CODES, MAX_CODES]);
+        let n = *r.pick(&[1, 2, 5, 15, 15, MAX_CODES, MAX_CODES]);
         record.codes = generate::codes(r, &[], n);
     }
     let bad = generate::bad_pairs(r);
@@ -413,13 +416,13 @@ pub fn any_code_addition(r: &mut Random) -> (Record, CodePair) {
         pair = bad[1];
     } else if !record.codes.is_empty() {
         let (one, other) = (*r.pick(&record.codes), *r.pick(&record.codes));
-        match r.below(12) {
+        match r.below(15) {
             0 => pair.old = one.old,
             1 | 2 => pair.old = one.current,
             3 | 4 => pair.current = one.old,
             5 | 6 => pair.current = one.current,
             7 => pair = CodePair { old: one.current, current: other.current },
-            8 => pair = bad[0],
+            8..=10 => pair = bad[0],
             _ => {}
         }
     } else if r.percent(30) {
@@ -436,17 +439,21 @@ pub fn any_database(r: &mut Random) -> (Record, Vec<u32>) {
     (record, words)
 }
 
-/// A record, a place, a database to evaluate its query on, and how many words the answers have, which are at most 400.
+/// A record, a place, a database to evaluate its query on, and how many words the answers have, which are at most 400. Less often there is one answer or none.
 pub fn any_evaluation(r: &mut Random) -> (Record, u8, Vec<u32>, usize) {
     loop {
-        let record = filled_record(r);
+        let mut record = filled_record(r);
+        if record.codes.is_empty() && record != Record::default() && r.percent(25) {
+            record = generate::with_codes(r, record);
+        }
         let p = place(r, &record, true);
         let query = record.places.get(p as usize).cloned().flatten();
         let words = any_words(r, &record, query.as_ref());
         let (Some(query), Ok(facts)) = (&query, facts(&record.widths, &words)) else { return (record, p, words, 0) };
         let (query, facts) = (read_query(&record.codes, query), read_facts(&record.codes, &facts));
-        let due = answers_within(&query, &facts, 400).len() * query.head_length as usize;
-        if due <= 400 {
+        let n = answers_within(&query, &facts, 400).len();
+        let due = n * query.head_length as usize;
+        if due <= 400 && (n > 1 || r.percent(40)) {
             return (record, p, words, due);
         }
     }
@@ -532,7 +539,14 @@ fn line(r: &mut Random, call: usize) -> Line {
     match call {
         0 => {
             let file = loop {
-                let file = if r.percent(30) { bytes(&generate::record(r)) } else { generate::damaged(r) };
+                let file = match r.below(10) {
+                    0..=2 => bytes(&generate::record(r)),
+                    3..=5 => {
+                        let record = generate::record(r);
+                        generate::with_damaged_codes(r, &record)
+                    }
+                    _ => generate::damaged(r),
+                };
                 if file.len() < 900 || (file.len() < 5000 && r.percent(10)) {
                     break file;
                 }
