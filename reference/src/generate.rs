@@ -165,8 +165,7 @@ pub fn with_long_constants(r: &mut Random, record: &Record) -> Record {
     if record.codes.is_empty() { out } else { with_codes(r, out) }
 }
 
-/// So many pairs of codes, at most 16, by preference of these numbers. 0 is often among the old codes and often among the current ones, and pairs often share a
-/// current code.
+/// So many pairs of codes, by preference of these numbers. 0 is often among the old codes or the current ones, and pairs often share a current code.
 pub fn codes(r: &mut Random, numbers: &[u32], n: usize) -> Vec<CodePair> {
     let mut near = numbers.to_vec();
     let few = [0, 1, 2, 3, 4, 7, 255, 256, 65_536, MAX_CONSTANT - 1, MAX_CONSTANT];
@@ -972,7 +971,7 @@ fn damaged_tail(r: &mut Random, record: &Record) -> Vec<u8> {
     out
 }
 
-/// Two pairs that must not be held together, or one that must not be held: the last of these is the one that is refused when the first is held.
+/// A pair that is never held, or two of which the second is not held beside the first.
 pub fn bad_pairs(r: &mut Random) -> Vec<CodePair> {
     let mut number = |not: &[u32]| loop {
         let n = *r.pick(&[0, 0, 1, 2, 3, 4, 9, 256, MAX_CONSTANT]);
