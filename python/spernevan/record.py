@@ -355,7 +355,7 @@ class Record:
 
     @property
     def queries(self) -> Tuple[Optional[Query], ...]:
-        """The eight places, None where vacant."""
+        """The eight places, None where vacant; queries have the codes that they were put in with."""
         return self._contents.queries
 
     def filled(self) -> List[int]:
@@ -580,7 +580,7 @@ class Record:
         return True
 
     def check(self, p: int, q: int, mapping: Mapping) -> bool:
-        """Whether `mapping` is one from the query at q to the query at p as it is stored.
+        """Whether `mapping` is one from the query at q to the query at p, neither of them chased. Old codes in it too are read as current ones.
 
         A variable that `mapping` leaves out goes to constant 0, as one that is not in q must.
         """
