@@ -458,11 +458,11 @@ def evaluate_command(options: Options) -> int:
     relations = [row.relation for row in asked.query.rows]
     record.has_tables(database, relations, "the query asks for")
     _say_notes(database, relations)
-    double = database.text_and_number(relations, constants(asked.query), readings(record.pairs_for(database)))
+    double = database.text_and_number(relations, [*constants(asked.query), *record.renumbered()], readings(record.pairs_for(database)))
     if double is not None:
         say(
             f"spernevan: the text '{double}' and the number {double} are different values, and both are here; "
-            "a query has the text between quotes" + (", and --text TABLE.COLUMN takes a column of CSV as text" if database.has_cells else "")
+            f"a query{' or a renumbered code' if record.code_pairs else ''} has the text between quotes" + (", and --text TABLE.COLUMN takes a column of CSV as text" if database.has_cells else "")
         )
     meant = database.text_as_variable(asked.query, asked.variables)
     if meant is not None:

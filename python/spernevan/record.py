@@ -317,8 +317,7 @@ class Record:
 
     def _constants(self) -> List[int]:
         """The numbers of the pairs of codes, then those of the saved queries' constants."""
-        held = [number for pair in self.code_pairs for number in (pair.old, pair.current)]
-        return held + [number for query in self.queries if query is not None for number in constants(query)]
+        return self.renumbered() + [number for query in self.queries if query is not None for number in constants(query)]
 
     def codes(self) -> List[int]:
         """The constants of the saved queries, and the renumbered codes, that may stand for a text, a date or another value."""
@@ -352,6 +351,10 @@ class Record:
     def code_pairs(self) -> Tuple[CodePair, ...]:
         """The codes that were renumbered, each with its current one, in the order added."""
         return self._contents.code_pairs
+
+    def renumbered(self) -> List[int]:
+        """The numbers of these pairs, old and current ones."""
+        return [number for pair in self.code_pairs for number in (pair.old, pair.current)]
 
     @property
     def queries(self) -> Tuple[Optional[Query], ...]:
@@ -743,7 +746,8 @@ class Record:
         meant = database.text_as_variable(query, variables)
         if meant is not None:
             warnings.warn(f"{meant}; a text stands between quotes", stacklevel=4)
-        double = database.text_and_number([row.relation for row in query.rows], constants(query), readings(self.pairs_for(database)))
+        there = [*constants(query), *self.renumbered()]
+        double = database.text_and_number([row.relation for row in query.rows], there, readings(self.pairs_for(database)))
         if double is not None:
             warnings.warn(f"the text {double!r} and the number {double} are different values, and both are here", stacklevel=4)
         found = self.broken(database, [row.relation for row in query.rows])

@@ -3,16 +3,18 @@
 import json
 import random
 import shutil
+import sqlite3
 import tempfile
 import unittest
 import warnings
 from array import array
+from contextlib import closing
 from datetime import date
 from decimal import Decimal
 from pathlib import Path
 
 import context
-from context import MANY, plain_answers, plain_broken, plain_read, plain_short, random_data, random_pairs, random_query, random_record
+from context import MANY, plain_answers, plain_broken, plain_read, plain_short, random_data, random_pairs, random_record
 from spernevan import (
     Broken,
     BrokenJoin,
@@ -527,6 +529,9 @@ class Data(Codes):
             warnings.simplefilter("error")
             self.assertEqual(record.add("code '13' -> 13").evaluate("ans(f) :- flight(f, 13)", data), [(1,), (2,)])
             self.assertEqual(record.add("code 13 -> '13'").evaluate("ans(f) :- flight(f, 13)", data), [(1,), (2,)])
+        # An old code that the data has as a text.
+        with self.assertWarnsRegex(UserWarning, "the text '13' and the number 13 are different values"):
+            self.assertEqual(record.add("code 13 -> 14").evaluate("ans(f) :- flight(f, 14)", {"flight": [(2, "13")]}), [])
 
 
 class Commands(Command):
@@ -608,8 +613,8 @@ class Commands(Command):
 
     def test_reduce_and_put(self):
         out = self.folder / "s.file"
-        short = "ans(f, b) :- flight(f, 5170101, _), sonde(5170101, b, _)"
-        self.assertEqual(self.done("reduce", TEXT, 2, "-o", out), f"{out}: place 3 holds the short form of place 2, 2 rows: {short.replace('_)', 'p)', 1).replace('_)', 'x)')}\n")
+        short = "ans(f, b) :- flight(f, 5170101, p), sonde(5170101, b, x)"
+        self.assertEqual(self.done("reduce", TEXT, 2, "-o", out), f"{out}: place 3 holds the short form of place 2, 2 rows: {short}\n")
         self.assertEqual(self.done("put", out, 4, "ans(f) :- flight(f, 4170102, _)"), f"{out}: place 4 holds ans(f) :- flight(f, 4170102, _)\n")
         self.assertEqual(self.done("equivalent", out, 2, 3).split(":")[0], "Equivalent")
         self.assertEqual(Record.read(out).query(4), Query((v(0),), (Row(0, (v(0), c(4170102), v(1))),)))
@@ -689,6 +694,26 @@ class Commands(Command):
         self.assertEqual(self.done("define", context.SAMPLES / "station.text", 0, "--format", "sql")[:6], "SELECT")
         record, known = pack("R(a)\n0: ans(x) :- R(x)\n")
         self.assertNotIn("Current codes", archive_sql([define(record, known, 0)]))
+
+    def test_sql_answers(self):
+        """On tables that have current codes a statement has the engine's answers."""
+        record = Record.read(TEXT)
+        rows = [(table.columns, table.name) for table in record.names.tables]
+        data = {name: [] for _, name in rows}
+        for line in Path(DATA).read_text().splitlines()[1:]:
+            name, values = line.rstrip(")").split("(")
+            data[name].append(tuple(map(int, values.split(", "))))
+        current = {pair.old: pair.current for pair in record.code_pairs}
+        with closing(sqlite3.connect(":memory:")) as connection:
+            for columns, name in rows:
+                connection.execute(f"CREATE TABLE {name} ({', '.join(columns)})")
+                connection.executemany(f"INSERT INTO {name} VALUES ({', '.join('?' * len(columns))})", [[current.get(v, v) for v in row] for row in data[name]])
+            for place in record.filled():
+                answers = record.evaluate(place, data)
+                self.assertTrue(answers)
+                for form in ("long", "short"):
+                    text = self.done("define", TEXT, place, "--format", "sql", "--form", form)
+                    self.assertEqual(sorted(connection.execute(text)), answers)
 
     def test_page(self):
         text = self.done("page", TEXT)
