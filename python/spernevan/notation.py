@@ -511,10 +511,11 @@ def parse_added(text: str, names: Names) -> Sequence[Added]:
 
     The values of a pair are entered in `names.values`.
     """
-    reader = Reader(text, "code")
+    reader = Reader(text, "dependency")
     reader.at_end()
     if not begins_code(reader, names.tables):
         return parse_dependencies(text, names)
+    reader.source = "code"
     found = read_code(reader, names.values)
     if not reader.at_end():
         raise reader.expected("the end")
@@ -606,7 +607,9 @@ def read_code(reader: Reader, values: Values) -> CodePair:
     old = values.encode(reader.value("an old code"))
     if reader.next.kind == ",":
         raise reader.error(reader.next, "each old code has a line of its own")
-    reader.take("->")
+    arrow = reader.take("->")
+    if reader.next.line > arrow.line and reader.then.kind in (":", "="):
+        raise reader.error(arrow, "a current code was expected after '->'")
     return CodePair(old, values.encode(reader.value("a current code")))
 
 

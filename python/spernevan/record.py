@@ -353,7 +353,7 @@ class Record:
         return self._contents.code_pairs
 
     def renumbered(self) -> List[int]:
-        """The numbers of these pairs, old and current ones."""
+        """The numbers of the renumbered codes, old and current ones."""
         return [number for pair in self.code_pairs for number in (pair.old, pair.current)]
 
     @property

@@ -129,6 +129,7 @@ class Notation(unittest.TestCase):
             ("code 5 = 9", "code:1:8: '->' was expected, not '='"),
             ("code 5 \u2192 9", "code:1:8: '\u2192' has no meaning here; '->' goes between the columns of a dependency, or between two codes"),
             ("codes 5 -> 9", "dependency:1:1: there is no table codes; there is flight, burst"),
+            ("flight; number -> site", "dependency:1:7: ';' has no meaning here; ',' goes between the rows of a rule, and each row of a database has its own line"),
             ("code: number -> site", "dependency:1:1: there is no table code; there is flight, burst"),
         ):
             with self.subTest(text=text), self.assertRaises(NotationError) as caught:
@@ -434,6 +435,8 @@ class Texts(Codes):
             (start + "code 7\n0: ans() :- never", "4:7: '->' was expected, not the end of the line"),
             (start + "code 7 -> 8 flight(x)", "4:13: the end of the line was expected, not 'flight'"),
             (start + "code 7 -> 8, 9 -> 10", "4:12: the end of the line was expected, not ','; what follows goes on a line of its own"),
+            (start + "code 7 ->\n0: ans() :- never", "4:8: a current code was expected after '->'"),
+            (start + "code 7 ->\n2000000000 = 'x'", "4:8: a current code was expected after '->'"),
             (start + "code number -> 8", "4:6: an old code was expected, not 'number'; a text stands between quotes"),
             (start + "2000000000 = 5", "4:1: 5 stands for itself and has no code"),
             ("code 5 -> 9\n", "2:1: a text has at least one table, as in flight(number, sonde)"),
