@@ -307,7 +307,7 @@ class Hostile(Calls):
             try:
                 record = Record(bytes(file))
             except Refused as refused:
-                self.assertIn(refused.number, [*range(1, 7), 15])
+                self.assertIn(refused.number, [*range(1, 7), 15, 18])
                 continue
             accepted += 1
             self.assertEqual(engine.write(record.file), bytes(file))
@@ -649,6 +649,7 @@ class Header(unittest.TestCase):
         self.assertEqual(sizes, ours)
         kinds = {
             "uint8_t": ctypes.c_uint8,
+            "uint32_t": ctypes.c_uint32,
             "size_t": ctypes.c_size_t,
             "uint8_t*": ctypes.POINTER(ctypes.c_uint8),
             "uint32_t*": ctypes.POINTER(ctypes.c_uint32),
