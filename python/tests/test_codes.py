@@ -47,6 +47,7 @@ from test_page import Tree
 
 TEXT = str(context.SAMPLES / "catalogue.text")
 DATA = str(context.SAMPLES / "catalogue.data")
+ROWS = 100_000
 TABLES = (Table("flight", ("number", "sonde", "site")), Table("burst", ("flight", "height")))
 
 
@@ -372,6 +373,25 @@ class Calls(Codes):
                             outcomes.append(refused.number)
                     self.assertEqual(*outcomes)
         self.assertGreater(changed, 20)
+
+    def test_many_rows(self):
+        """A tenth of a million rows are read as few are."""
+        rng = random.Random(81)
+        pairs = random_pairs(rng, 30, range(100))[:16]
+        self.assertEqual(len(pairs), 16)
+        bare = Record.open([2, 1]).add(0, [0], 1)
+        record = bare.add_all(pairs)
+        rows = [(0, (1000 + number, number % 100)) for number in range(ROWS)] + [(1, (code,)) for code in range(0, 100, 3)]
+        read = plain_read(pairs, rows)
+        self.assertIsNone(record.test(rows))
+        for rule in ("ans(x) :- R0(x, y), R1(y)", "ans(y) :- R0(x, y)", f"ans(x, {pairs[0].old}) :- R0(x, {pairs[0].old})"):
+            asked = bare.placed(rule)[0].query(0).read(pairs)
+            self.assertEqual(record.evaluate(rule, rows), bare.evaluate(asked, read))
+            self.assertEqual(record.count(rule, rows), bare.count(asked, read))
+        old = next(number for number in range(ROWS) if number % 100 == pairs[0].old)
+        self.assertIsNone(record.test([*rows, (0, (1000 + old, pairs[0].current))]))
+        self.assertEqual(bare.test([*rows, (0, (1000 + old, pairs[0].current))]), Broken(0, old, len(rows)))
+        self.assertEqual(record.test([*rows, (0, (1000 + old, 999))]), Broken(0, old, len(rows)))
 
     def test_definition(self):
         """The images of rows, and the dependencies that are needed, are told of rows that are read."""
