@@ -518,6 +518,16 @@ class Data(Codes):
         with self.assertWarnsRegex(UserWarning, r"\(row 0 of sonde: sonde\('RS92', 1\); row 1 of sonde: sonde\('RS41', 2\); 'RS92' is read as 'RS41'\)"):
             record.evaluate("ans(m) :- sonde(_, m)", {"sonde": [("RS92", 1), ("RS41", 2)]})
 
+    def test_the_dependencies_of_a_query(self):
+        """Of several that a database breaks one of the query's tables is told, by rows that are read."""
+        record = pack("flight(number*, sonde)\nsonde(code*, maker)\ncode 'RS92' -> 'RS41'\n")[0]
+        data = {"flight": [(1, "a"), (1, "b")], "sonde": [("RS92", "Vaisala"), ("RS41", "Vaisala")]}
+        self.assertEqual(record.broken(record.database(data), [1]), Broken(0, 0, 1))
+        data["sonde"] = [("RS92", "Vaisala"), ("RS41", "Graw")]
+        self.assertEqual(record.broken(record.database(data), [1]), Broken(1, 2, 3))
+        data["flight"] = [("RS92", "a"), ("RS41", "b")]
+        self.assertEqual(record.broken(record.database(data), [0, 1]), Broken(0, 0, 1))
+
     def test_missing_row(self):
         """The row that a join asks for is shown with current codes."""
         record = pack("layer(flight, height, sonde)\nlayer: join (flight, height) (flight, sonde)\ncode 'old' -> 'new'\n")[0]
@@ -526,6 +536,10 @@ class Data(Codes):
         self.assertEqual(found, BrokenJoin(0, (0, 1)))
         self.assertEqual(record.missing(found, data), "layer('new', 1, 'b')")
         self.assertEqual(record.read_in(found, data), ["'old' is read as 'new'"])
+        data = record.database({"layer": [("new", 1, "a"), ("old", 2, "old")]})
+        self.assertEqual(record.missing(record.test(data), data), "layer('new', 1, 'new')")
+        data = record.database({"layer": [("new", 1, "a"), ("new", 2, "b")]})
+        self.assertEqual(record.read_in(record.test(data), data), [])
 
     def test_another_dictionary(self):
         """A database that was read before a code was added may have other numbers for its values."""
