@@ -335,7 +335,7 @@ class Random(Calls):
         rng = random.Random(6)
         with tempfile.TemporaryDirectory() as folder:
             for number in range(10 * MANY):
-                record = random_record(rng, most_joins=4)
+                record = random_record(rng, most_joins=4, most_codes=4)
                 path = Path(folder, f"{number}.file")
                 record.write(path)
                 self.assertEqual(path.read_bytes(), record.file)
