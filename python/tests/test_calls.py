@@ -229,13 +229,13 @@ class Refusals(Calls):
 
     def test_lent_buffers_stay_as_they_were(self):
         library, file = engine._library(), self.record.file
-        out = (ctypes.c_uint8 * 4445)(*[7] * 4445)
+        out = (ctypes.c_uint8 * engine.LONGEST_FILE)(*[7] * engine.LONGEST_FILE)
         size = ctypes.c_size_t(77)
         self.assertEqual(library.spernevan_drop(file, len(file), 5, out, len(out), ctypes.byref(size)), 11)
         self.assertEqual(library.spernevan_write(file, len(file), out, len(file) - 1, ctypes.byref(size)), 10)
-        self.assertEqual((bytes(out), size.value), (b"\7" * 4445, 77))
+        self.assertEqual((bytes(out), size.value), (b"\7" * len(out), 77))
         self.assertEqual(library.spernevan_write(file, len(file), out, len(file), ctypes.byref(size)), 0)
-        self.assertEqual((bytes(out), size.value), (file + b"\7" * (4445 - len(file)), len(file)))
+        self.assertEqual((bytes(out), size.value), (file + b"\7" * (len(out) - len(file)), len(file)))
         words, answers = array("I", [0, 1, 2, 0, 3, 4]), array("I", [9] * 4)
         lent = engine._words(words)
         room = engine._words(answers)[0]
@@ -347,10 +347,12 @@ class Random(Calls):
             record = record.add(7, range(8), 7)
         for _ in range(4):
             record = record.add_join(7, [range(8)] * 4)
+        for number in range(16):
+            record = record.add_code(number, 2**31 - 1)
         row = Row(7, tuple(v(n) for n in range(88, 96)))
         for place in range(8):
             record = record.put(place, Query(row.entries, (row,) * 12))
-        self.assertEqual(len(record.file), 4445)
+        self.assertEqual((len(record.file), engine.LONGEST_FILE), (4574, 4574))
         self.assertEqual(Record(record.file), record)
         self.assertEqual(record.shorten(7).result, Query(row.entries, (row,)))
 

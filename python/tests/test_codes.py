@@ -267,14 +267,6 @@ class Calls(Codes):
             self.assertEqual((engine.write(record.file), pack(unpack(record, record.names))[0].file), (file, file))
         self.assertGreater(accepted, 100)
 
-    def test_the_longest_file(self):
-        record = Record.open([8] * 8).add_all([Dependency(0, (0,), 1)] * 32).add_all([JoinDependency(0, [range(8)] * 4)] * 4)
-        record = record.add_all([CodePair(number, 99) for number in range(16)])
-        query = Query([v(0)] * 8, [Row(0, [v(0)] * 8)] * 12)
-        for place in range(8):
-            record = record.put(place, query)
-        self.assertEqual((len(record.file), engine.LONGEST_FILE, Record(record.file)), (4574, 4574, record))
-
     def test_stored_queries_stay(self):
         record = Record.open([2]).put(0, "ans(x, 5) :- R0(x, 5)").add_code(5, 9).put(1, "ans(x, 5) :- R0(x, 5)")
         stored = Query((v(0), c(5)), (Row(0, (v(0), c(5))),))
