@@ -13,7 +13,7 @@ __version__ = "1.0.0"
 from .data import Database, DataError
 from .engine import EngineMissing, Refused
 from .files import Failure
-from .model import Constant, Dependency, Entry, JoinDependency, Mapping, Query, Row, Variable
+from .model import CodePair, Constant, Dependency, Entry, JoinDependency, Mapping, Query, Row, Variable
 from .notation import Names, NotationError, Table, format_mapping, format_query, parse_query, read_names
 from .record import Broken, BrokenJoin, Comparison, Record, Reduction
 from .sources import read_database
@@ -23,6 +23,7 @@ from .values import Value, Values
 __all__ = [
     "Broken",
     "BrokenJoin",
+    "CodePair",
     "Comparison",
     "Constant",
     "DataError",

@@ -174,13 +174,14 @@ def usage() -> Parser:
     made.add_argument("rule", metavar="RULE", help="a rule, 'ans(x) :- ..', or - for one on standard input")
     made = changing("drop", drop_command, "make places vacant")
     made.add_argument("place", metavar="PLACE", nargs="+", type=place, help="a filled place, 0 to 7")
-    made = changing("add", add_command, "add dependencies after those held")
+    made = changing("add", add_command, "add dependencies, or codes that were renumbered, after those held")
     made.add_argument(
-        "dependency",
+        "added",
         metavar="DEPENDENCY",
         nargs="+",
         help="as in 'layer: flight, level -> height, temperature', or a column that never varies, 'flight: -> site', "
-        "or a key, 'layer(flight*, level*, height, temperature)', or a join dependency, 'layer: join (flight, level, height) (flight, level, temperature)'",
+        "or a key, 'layer(flight*, level*, height, temperature)', or a join dependency, 'layer: join (flight, level, height) (flight, level, temperature)'; "
+        "or a code that was renumbered and the one that it has now, 'code 4103 -> 8103'",
     )
     made = command("pack", pack_command, "make an archive file, and its names file, from a text")
     made.add_argument("text", metavar="TEXT", help="the text of an archive, or - for standard input")

@@ -32,7 +32,7 @@ from .files import (
     write_files,
 )
 from .layout import comparison_json, frozen_text, reduction_json, set_mapping, set_tables, write_answers
-from .model import FROZEN, PLACES
+from .model import FROZEN, PLACES, AnyDependency, CodePair, readings
 from .notation import (
     Names,
     NotationError,
@@ -40,13 +40,14 @@ from .notation import (
     blanked,
     constants,
     count,
+    format_codes,
     format_columns,
     format_dependencies,
     format_dependency,
     format_query,
     format_row,
     never_varies,
-    parse_dependencies,
+    parse_added,
     parse_rule,
 )
 from .page import page
@@ -437,8 +438,9 @@ def _say_notes(database: Database, relations: Iterable[int]) -> None:
 def _broken(record: Record, database: Database, broken: AnyBroken) -> List[str]:
     """A broken dependency for people."""
     dependency = format_dependency(record.dependency_of(broken), record.names)
+    read = [f"  {line}" for line in record.read_in(broken, database)]
     if not isinstance(broken, BrokenJoin):
-        rows = [f"  {database.say(position)}" for position in (broken.first, broken.second)]
+        rows = [f"  {database.say(position)}" for position in (broken.first, broken.second)] + read
         says = never_varies(record.dependency_of(broken), record.names)
         meaning = f", by which {says}" if says else ""
         return [f"Breaks {dependency} (dependency {broken.dependency}){meaning}:", *rows]
@@ -446,7 +448,7 @@ def _broken(record: Record, database: Database, broken: AnyBroken) -> List[str]:
     rows = [
         f"  {database.say(position)} gives {format_columns(join.relation, sorted(columns), record.names)}" for position, columns in zip(broken.rows, join.sets)
     ]
-    return [f"Breaks {dependency} (join dependency {broken.dependency}):", *rows, f"  missing: {record.missing(broken, database)}"]
+    return [f"Breaks {dependency} (join dependency {broken.dependency}):", *rows, f"  missing: {record.missing(broken, database)}", *read]
 
 
 def evaluate_command(options: Options) -> int:
@@ -456,11 +458,11 @@ def evaluate_command(options: Options) -> int:
     relations = [row.relation for row in asked.query.rows]
     record.has_tables(database, relations, "the query asks for")
     _say_notes(database, relations)
-    double = database.text_and_number(relations, constants(asked.query))
+    double = database.text_and_number(relations, [*constants(asked.query), *record.renumbered()], readings(record.pairs_for(database)))
     if double is not None:
         say(
             f"spernevan: the text '{double}' and the number {double} are different values, and both are here; "
-            "a query has the text between quotes" + (", and --text TABLE.COLUMN takes a column of CSV as text" if database.has_cells else "")
+            f"a query{' or a renumbered code' if record.code_pairs else ''} has the text between quotes" + (", and --text TABLE.COLUMN takes a column of CSV as text" if database.has_cells else "")
         )
     meant = database.text_as_variable(asked.query, asked.variables)
     if meant is not None:
@@ -583,14 +585,22 @@ def drop_command(options: Options) -> int:
 @_changing
 def add_command(options: Options) -> int:
     record, was_text = load_record(options.file)
-    given = [one for text in options.dependency for one in parse_dependencies(text, record.names)]
-    new = [one for one in dict.fromkeys(given) if one not in record.all_dependencies]
-    again = [one for one in dict.fromkeys(given) if one in record.all_dependencies]
-    after = record.add_all(new)
-    said = f"{count(len(new), 'dependency')} added, {len(after.all_dependencies)} in all"
+    given = dict.fromkeys(one for text in options.added for one in parse_added(text, record.names))
+    dependencies: List[AnyDependency] = [one for one in given if not isinstance(one, CodePair)]
+    pairs = [one for one in given if isinstance(one, CodePair)]
+    new = [one for one in dependencies if one not in record.all_dependencies]
+    new_pairs = [one for one in pairs if one not in record.code_pairs]
+    after = record.add_all([*new, *new_pairs])
+    said = []
+    if dependencies:
+        said.append(f"{count(len(new), 'dependency')} added, {len(after.all_dependencies)} in all")
+    if pairs:
+        said.append(f"{count(len(new_pairs), 'renumbered code')} added, {len(after.code_pairs)} in all")
+    again = format_dependencies([one for one in dependencies if one in record.all_dependencies], record.names)
+    again += format_codes([one for one in pairs if one in record.code_pairs], record.names)
     if again:
-        said += f"; held already: {'; '.join(format_dependencies(again, record.names))}"
-    save(options, after, was_text, said)
+        said.append(f"held already: {'; '.join(again)}")
+    save(options, after, was_text, "; ".join(said))
     return YES
 
 

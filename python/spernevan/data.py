@@ -19,6 +19,7 @@ from decimal import Decimal
 from functools import partial
 from math import isfinite
 from operator import itemgetter
+from types import MappingProxyType
 from typing import AbstractSet, Any, Callable, Dict, Iterable, Iterator, List, Mapping, NamedTuple, Optional, Sequence, Set, TextIO, Tuple, Union
 
 from .files import Failure
@@ -226,24 +227,34 @@ class Database:
         self.has_cells = self.has_cells or read in (str, read_cell, read_cell_with_comma)
         return Cells(self.values, self.null(relation, column), read, self.form(relation, column))
 
-    def stands(self, position: int) -> Stands:
-        """The row at a position, from 0 over all rows."""
-        block = self._blocks[bisect_right(self._firsts, position) - 1]
+    def _block(self, position: int) -> Block:
+        return self._blocks[bisect_right(self._firsts, position) - 1]
+
+    def words_at(self, position: int) -> Words:
+        """The words of the values of the row at a position, from 0 over all rows."""
+        block = self._block(position)
         width = len(self.names.tables[block.relation].columns) + 1
-        inside = position - block.first
-        at = block.word + inside * width
-        words = self.words[at + 1 : at + width]
-        values = tuple(self.shown(block.relation, column)[word] for column, word in enumerate(words))
-        return Stands(block.where(inside), block.relation, values)
+        at = block.word + (position - block.first) * width
+        return self.words[at + 1 : at + width]
+
+    def stands(self, position: int) -> Stands:
+        """The row at a position."""
+        block = self._block(position)
+        values = tuple(self.shown(block.relation, column)[word] for column, word in enumerate(self.words_at(position)))
+        return Stands(block.where(position - block.first), block.relation, values)
 
     def say(self, position: int) -> str:
         """A row and where it stands, for a message."""
         found = self.stands(position)
         return f"{found.where}: {format_datum(self.names.tables[found.relation].name, found.values)}"
 
-    def text_and_number(self, relations: Iterable[int], others: Iterable[int] = ()) -> Optional[str]:
-        """A text that looks like a number which is there too, in the rows of some tables or among `others`; such a pair is never equal."""
+    def text_and_number(self, relations: Iterable[int], others: Iterable[int] = (), current: Mapping[int, int] = MappingProxyType({})) -> Optional[str]:
+        """A text that looks like a number which is there too, in the rows of some tables or among `others`; such a pair is never equal,
+        unless the codes that are `current` make it one."""
         numbers = self.values.numbers_as_text()
+        if current:
+            codes = {number: self.values.encode(text) for number, text in numbers.items()}
+            numbers = {number: numbers[number] for number, code in codes.items() if current.get(number, number) != current.get(code, code)}
         found = {number for number in numbers if self.values.known(number)}.union(set(numbers).intersection(others))
         if not numbers:
             return None

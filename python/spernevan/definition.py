@@ -10,7 +10,7 @@ from dataclasses import dataclass, field
 from functools import cached_property
 from typing import Callable, Dict, List, Optional, Sequence, Tuple
 
-from .model import Constant, Dependency, Entry, JoinDependency, Mapping, Query, Row, Variable
+from .model import Added, CodePair, Constant, Dependency, Entry, JoinDependency, Mapping, Query, Row, Variable
 from .notation import Names
 from .record import Record
 from .values import Value, format_value
@@ -26,7 +26,10 @@ def itself(number: int) -> Value:
 
 @dataclass(frozen=True)
 class Definition:
-    """A query of a record and its reduction, as a paper prints them. The reduction is by the functional dependencies alone."""
+    """A query of a record and its reduction, as a paper prints them. The reduction is by the functional dependencies alone.
+
+    The long form has the codes that it was given with, the short form current ones.
+    """
 
     names: Names
     record: Record
@@ -46,6 +49,16 @@ class Definition:
     def join_dependencies(self) -> List[JoinDependency]:
         """The join dependencies of the long form's relations, which make no form shorter."""
         return [one for one in self.record.join_dependencies if one.relation in self.relations]
+
+    @property
+    def code_pairs(self) -> Tuple[CodePair, ...]:
+        """The codes that were renumbered, each with its current one."""
+        return self.record.code_pairs
+
+    def old_codes(self) -> List[CodePair]:
+        """Those whose old codes the long form has."""
+        there = {entry.number for entry in self.long.entries() if isinstance(entry, Constant)}
+        return [pair for pair in self.code_pairs if pair.old in there]
 
     @cached_property
     def chased(self) -> Query:
@@ -73,7 +86,7 @@ class Definition:
         """For each row of the long form, the row of the short form that the mapping takes it to; none for never."""
         if self.mapping is None:
             return ()
-        return tuple(self.short.rows.index(_moved(row, self.mapping)) for row in self.long.rows)
+        return tuple(self.short.rows.index(_moved(row, self.mapping)) for row in self.long.read(self.code_pairs).rows)
 
     def kept(self) -> Tuple[Optional[int], ...]:
         """For each row of the long form, the row of the short form that it has become; None if it was dropped.
@@ -119,12 +132,9 @@ def define_all(record: Record, names: Names, decode: Decode = itself) -> List[De
 
 
 def _under(record: Record, held: Sequence[int]) -> Record:
-    """A record of the same tables with some of the functional dependencies and every place vacant."""
-    bare = Record.open(record.widths)
-    for number in held:
-        dependency = record.dependencies[number]
-        bare = bare.add(dependency.relation, dependency.left, dependency.right)
-    return bare
+    """A record of the same tables with some of the functional dependencies, the same renumbered codes and every place vacant."""
+    more: List[Added] = [record.dependencies[number] for number in held]
+    return Record.open(record.widths).add_all([*more, *record.code_pairs])
 
 
 def used_dependencies(record: Record, long: Query, short: Query) -> Tuple[int, ...]:

@@ -19,9 +19,9 @@ from pathlib import Path
 from queue import SimpleQueue
 from typing import Any, Callable, List, NamedTuple, Optional, Sequence, Tuple, Type, Union
 
-from .model import BYTE, VARIABLES, Words, whole
+from .model import BYTE, VARIABLES, WORD, Words, whole
 
-LONGEST_FILE = 4445
+LONGEST_FILE = 4574
 LONGEST_QUERY = 534
 LONGEST_CHASED = 1026
 MAPPING_WORDS = 2 * VARIABLES
@@ -30,7 +30,7 @@ SIZE = ctypes.c_size_t(-1).value
 MEANINGS = {
     1: "the file does not begin as an archive file does; it is cut short, or of another kind",
     2: "the parts of the file do not follow one another to its end; it is cut short, or something was added to it",
-    3: "there must be 1 to 8 tables of 1 to 8 columns each, and in a file nothing else in their part",
+    3: "there must be 1 to 8 tables of 1 to 8 columns each",
     4: "a functional dependency, or a set of columns, is wrong: its table and columns must exist, and in a file there are at most 32",
     5: "a query is wrong: at most 8 entries in the head, 12 rows, variables to v95, constants to 2147483647, "
     "rows of tables that exist, and in a file nothing else in its part and no vacant place at the end",
@@ -47,6 +47,9 @@ MEANINGS = {
     "in a file there are at most 4, and nothing else after the functional ones in their part",
     16: "4 join dependencies are held, which is as many as there may be",
     17: "the comparison was given up: the join dependencies make the first query longer than 24 rows",
+    18: "a renumbered code is wrong: the old and the current code differ, both go up to 2147483647, the old one is in no other pair and the current one is "
+    "old in none; in a file there are at most 16 pairs, and nothing else after the tables in their part",
+    19: "16 renumbered codes are held, which is as many as there may be",
 }
 
 
@@ -73,6 +76,7 @@ _BYTES = [ctypes.c_char_p, ctypes.c_size_t]
 _OUT = [ctypes.POINTER(ctypes.c_uint8), ctypes.c_size_t, ctypes.POINTER(ctypes.c_size_t)]
 _WORDS = [ctypes.POINTER(ctypes.c_uint32), ctypes.c_size_t]
 _BYTE = [ctypes.c_uint8]
+_WORD = [ctypes.c_uint32]
 _PLACE = [ctypes.c_size_t]
 _BYTE_OUT = [ctypes.POINTER(ctypes.c_uint8)]
 _SIZE_OUT = [ctypes.POINTER(ctypes.c_size_t)]
@@ -84,6 +88,7 @@ _CALLS = {
     "open": _BYTES + _OUT,
     "add": _BYTES + _BYTE * 3 + _OUT,
     "add_join": _BYTES + _BYTE + _BYTES + _OUT,
+    "add_code": _BYTES + _WORD * 2 + _OUT,
     "put": _BYTES + _PLACE + _BYTES + _OUT,
     "drop": _BYTES + _PLACE + _OUT,
     "determined": _BYTES + _BYTE * 2 + _BYTE_OUT * 2,
@@ -270,6 +275,14 @@ def add_join(file: bytes, relation: int, sets: bytes) -> bytes:
     """The file after a join dependency is added; each of its sets of columns is a byte."""
     room = _Room(LONGEST_FILE)
     _call("add_join", *_slice(file), _byte("a relation", relation), *_slice(sets), *room.lent())
+    return room.bytes()
+
+
+def add_code(file: bytes, old: int, current: int) -> bytes:
+    """The file after a pair of codes is added: the old one is read as the current one."""
+    room = _Room(LONGEST_FILE)
+    numbers = whole("an old code", old, WORD), whole("a current code", current, WORD)
+    _call("add_code", *_slice(file), *numbers, *room.lent())
     return room.bytes()
 
 

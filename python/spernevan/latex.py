@@ -11,7 +11,7 @@ import unicodedata
 from typing import Dict, Iterable, List, Optional, Sequence, Tuple
 
 from .definition import Definition
-from .model import AnyDependency, Constant, Entry, JoinDependency, Query
+from .model import AnyDependency, CodePair, Constant, Entry, JoinDependency, Query
 from .notation import Names
 from .scan import count
 from .values import Value, bare
@@ -195,6 +195,11 @@ def dependency(one: AnyDependency, names: Names) -> str:
     return rf"{table_name(table.name)}: {listed(one.left)}~$\to$~{right}"
 
 
+def code(pair: CodePair, definition: Definition) -> str:
+    """A renumbered code and its current one."""
+    return rf"{value(definition.decode(pair.old))}~is read as~{value(definition.decode(pair.current))}"
+
+
 def form(query: Query, definition: Definition) -> str:
     """A query: its head, then its rows, numbered from 1."""
     written = _Form(query, definition)
@@ -249,6 +254,7 @@ def claim(definition: Definition) -> str:
     """What the engine has proved of the two forms, in a sentence."""
     kind = "functional dependencies" if definition.join_dependencies else "dependencies"
     where = f"every finite database that obeys these {kind}" if definition.used else "every finite database"
+    where += ", with old codes read as current ones," if definition.code_pairs else ""
     if definition.short.is_never:
         return f"On {where} the long form has no answer."
     rows = count(len(definition.short.rows), "row")
@@ -267,6 +273,9 @@ def fragment(definition: Definition, title: Optional[str] = None) -> str:
     if definition.join_dependencies:
         joins = _lines(dependency(one, names) for one in definition.join_dependencies)
         parts.append(_titled("Join dependencies, which the short form does not use.", "\n" + joins))
+    if definition.code_pairs:
+        codes = _lines(code(pair, definition) for pair in definition.code_pairs)
+        parts.append(_titled("Renumbered codes, in queries and databases.", "\n" + codes))
     parts.append(_titled(f"Long form, {count(len(definition.long.rows), 'row')}.", "\n" + form(definition.long, definition)))
     parts.append(
         _titled(f"Short form, {count(len(definition.short.rows), 'row')}.", "\n" + form(definition.short, definition))

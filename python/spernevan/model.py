@@ -1,4 +1,4 @@
-"""Entries, rows, queries and dependencies, and the bytes of a query in an archive file.
+"""Entries, rows, queries, dependencies and pairs of codes, and the bytes of a query in an archive file.
 
 Nothing here judges a query: the engine does. A value is turned away only when the file has no
 bytes for it, or when its bytes would be read as something else.
@@ -28,6 +28,7 @@ MOST_RELATIONS = 8
 MOST_COLUMNS = 8
 MOST_DEPENDENCIES = 32
 MOST_JOIN_DEPENDENCIES = 4
+MOST_CODE_PAIRS = 16
 LEAST_SETS = 2
 MOST_SETS = 4
 MOST_HEAD = 8
@@ -41,6 +42,7 @@ LARGEST_CONSTANT = 2**31 - 1
 FROZEN = 2**31
 
 _ENTRY = struct.Struct("<BI")
+_PAIR = struct.Struct("<II")
 
 
 def whole(what: str, value: object, top: Optional[int] = None) -> int:
@@ -164,6 +166,16 @@ class Query:
         counted = Counter(entry.number for entry in self.entries() if isinstance(entry, Variable))
         return frozenset(number for number, times in counted.items() if times == 1)
 
+    def read(self, pairs: Sequence[CodePair]) -> Query:
+        """The query with each old code of some pairs as its current one, as every call reads it."""
+        current = readings(pairs)
+
+        def entry(held: Entry) -> Entry:
+            return Constant(current[held.number]) if isinstance(held, Constant) and held.number in current else held
+
+        rows = tuple(Row(row.relation, tuple(map(entry, row.entries))) for row in self.rows)
+        return Query(tuple(map(entry, self.head)), rows, self.head_length)
+
 
 @dataclass(frozen=True)
 class Dependency:
@@ -208,6 +220,30 @@ class JoinDependency:
 
 
 AnyDependency = Union[Dependency, JoinDependency]
+
+
+@dataclass(frozen=True)
+class CodePair:
+    """A code that was renumbered: in every query and database the old code is read as the current one.
+
+    The engine accepts numbers 0 to 2,147,483,647.
+    """
+
+    old: int
+    current: int
+
+    def __post_init__(self) -> None:
+        whole("an old code", self.old, WORD)
+        whole("a current code", self.current, WORD)
+
+
+# What a record can be given more of.
+Added = Union[Dependency, JoinDependency, CodePair]
+
+
+def readings(pairs: Iterable[CodePair]) -> Dict[int, int]:
+    """The current codes of some pairs, by the old ones."""
+    return {pair.old: pair.current for pair in pairs}
 
 
 def mask_of(columns: Iterable[int]) -> int:
@@ -274,9 +310,10 @@ def decode_query(part: bytes, widths: Sequence[int]) -> Query:
 
 @dataclass(frozen=True)
 class Contents:
-    """What an accepted file holds: widths, functional and join dependencies in held order, and the eight places."""
+    """What an accepted file holds: widths, pairs of codes, functional and join dependencies in held order, and the eight places."""
 
     widths: Tuple[int, ...]
+    code_pairs: Tuple[CodePair, ...]
     dependencies: Tuple[Dependency, ...]
     join_dependencies: Tuple[JoinDependency, ...]
     queries: Tuple[Optional[Query], ...]
@@ -287,7 +324,8 @@ def decode_file(file: bytes) -> Contents:
     (count,) = struct.unpack_from("<H", file)
     pairs = struct.iter_unpack("<HH", file[2 : 2 + 4 * count])
     parts = [file[offset : offset + length] for offset, length in pairs]
-    widths = tuple(parts[0][1:])
+    widths = tuple(parts[0][1 : 1 + parts[0][0]])
+    code_pairs = tuple(CodePair(old, current) for old, current in _PAIR.iter_unpack(parts[0][2 + len(widths) :]))
     joins_at = 1 + 3 * parts[1][0]
     dependencies = tuple(
         Dependency(relation, columns_of(left), right)
@@ -295,7 +333,7 @@ def decode_file(file: bytes) -> Contents:
     )
     queries = [None if part == b"\xff" else decode_query(part, widths) for part in parts[2:]]
     queries += [None] * (PLACES - len(queries))
-    return Contents(widths, dependencies, _decode_joins(parts[1][joins_at:]), tuple(queries))
+    return Contents(widths, code_pairs, dependencies, _decode_joins(parts[1][joins_at:]), tuple(queries))
 
 
 def _decode_joins(rest: bytes) -> Tuple[JoinDependency, ...]:

@@ -8,6 +8,8 @@ nowhere else. `ans()` is a head of length 0, and `ans(_, _) :- never` is never w
 rule does not use, in order of first occurrence. So a rule printed with v0, v1, .. is read back as the
 very same query, and one printed with other names as the same query up to the names of its variables.
 
+`code 5 -> 9` says that the code 5 was renumbered and is read as 9.
+
 Tables without names are R0, R1, .. and their columns a, b, c, .. h. `#` begins a comment. A line may
 end after `,` `(` `:` `:-` `->` and go on in the next.
 """
@@ -27,7 +29,10 @@ from .model import (
     MOST_SETS,
     PLACES,
     VARIABLES,
+    LARGEST_CONSTANT,
+    Added,
     AnyDependency,
+    CodePair,
     Constant,
     Dependency,
     Entry,
@@ -501,6 +506,22 @@ def _read_join(reader: Reader, names: Names, relation: int) -> JoinDependency:
     return JoinDependency(relation, tuple(frozenset(one) for one in sets))
 
 
+def parse_added(text: str, names: Names) -> Sequence[Added]:
+    """What a line says that a record is given: dependencies, as `parse_dependencies` has them, or a pair of codes, `code 5 -> 9`.
+
+    The values of a pair are entered in `names.values`.
+    """
+    reader = Reader(text, "dependency")
+    reader.at_end()
+    if not begins_code(reader, names.tables):
+        return parse_dependencies(text, names)
+    reader.source = "code"
+    found = read_code(reader, names.values)
+    if not reader.at_end():
+        raise reader.expected("the end")
+    return [found]
+
+
 def parse_dependencies(text: str, names: Names, source: str = "dependency") -> Sequence[AnyDependency]:
     """The dependencies of a line such as `layer: flight, level -> height`, or `flight: -> site` for a column that never varies,
     or `layer(flight*, level*, height)` for a key of a table, or `layer: join (flight, level) (level, height)`."""
@@ -570,6 +591,63 @@ def never_varies(dependency: AnyDependency, names: Names) -> str:
     return f"{names.tables[dependency.relation].columns[dependency.right]} never varies"
 
 
+# ---- codes that were renumbered
+
+
+def begins_code(reader: Reader, tables: Sequence[Table]) -> bool:
+    """Whether a line begins as `code 5 -> 9` does, and not as one of a table that is called code."""
+    if reader.next.kind != "name" or reader.next.text != "code" or reader.then.kind in ("(", ":"):
+        return False
+    return reader.then.kind != "->" or all(table.name != "code" for table in tables)
+
+
+def read_code(reader: Reader, values: Values) -> CodePair:
+    """`code 5 -> 9`: an old code and its current one, as numbers or other values, which are entered in `values`."""
+    reader.take("name")
+    old = values.encode(reader.value("an old code"))
+    if reader.next.kind == ",":
+        raise reader.error(reader.next, "each old code has a line of its own")
+    arrow = reader.take("->")
+    if reader.next.line > arrow.line and reader.then.kind in (":", "="):
+        raise reader.error(arrow, "a current code was expected after '->'")
+    return CodePair(old, values.encode(reader.value("a current code")))
+
+
+def format_codes(pairs: Iterable[CodePair], names: Names) -> List[str]:
+    """The lines that `read_code` reads."""
+    return [f"code {format_code(pair.old, names)} -> {format_code(pair.current, names)}" for pair in pairs]
+
+
+def format_code(number: int, names: Names) -> str:
+    """A code as a rule has it: the value that it stands for."""
+    return format_value(names.values.decode(number))
+
+
+def is_read(pair: CodePair, names: Names) -> str:
+    """`5 is read as 9`, which a pair of codes says."""
+    return f"{format_code(pair.old, names)} is read as {format_code(pair.current, names)}"
+
+
+def code_fault(pair: CodePair, held: Sequence[CodePair], names: Names) -> str:
+    """Why a pair of codes cannot be held beside others, in words; nothing if it can."""
+    (line,) = format_codes([pair], names)
+    old, current = format_code(pair.old, names), format_code(pair.current, names)
+    if pair.old == pair.current:
+        return f"{line}: the old and the current code are equal"
+    for number in (pair.old, pair.current):
+        if number > LARGEST_CONSTANT:
+            return f"{line}: a code is at most {LARGEST_CONSTANT}"
+    for other in held:
+        (there,) = format_codes([other], names)
+        if pair.old == other.old:
+            return f"{line}: {old} is an old code already, in {there}"
+        if pair.old == other.current:
+            return f"{line}: {old} is the current code in {there}, which then has to be {format_codes([CodePair(other.old, pair.current)], names)[0]}"
+        if pair.current == other.old:
+            return f"{line}: {current} is an old code itself, in {there}; the current one is {format_code(other.current, names)}"
+    return ""
+
+
 __all__ = [
     "Names",
     "NamesFile",
@@ -577,9 +655,13 @@ __all__ = [
     "Reader",
     "Table",
     "Token",
+    "begins_code",
     "blanked",
+    "code_fault",
     "constants",
     "count",
+    "format_code",
+    "format_codes",
     "format_columns",
     "format_datum",
     "format_dependencies",
@@ -592,11 +674,14 @@ __all__ = [
     "format_query",
     "format_row",
     "format_variable_names",
+    "is_read",
     "key_dependencies",
     "never_varies",
+    "parse_added",
     "parse_dependencies",
     "parse_query",
     "parse_rule",
+    "read_code",
     "read_dependencies",
     "read_entry",
     "read_key",

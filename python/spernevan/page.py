@@ -15,7 +15,7 @@ from typing import Callable, Dict, Iterable, List, Optional, Sequence, Tuple, Un
 from .definition import Decode, Definition, Writer, define_all, itself, variable_text
 from .engine import Refused
 from .model import FROZEN, MOST_CHASED_ROWS, Entry, Query, Variable
-from .notation import Names, format_dependencies, format_dependency
+from .notation import Names, format_code, format_dependencies, format_dependency, is_read
 from .record import Comparison, DataRow, Record
 from .scan import count
 from .style import BESIDE, STYLE
@@ -35,6 +35,7 @@ def page(record: Record, names: Names, title: str = "Archive", decode: Decode = 
     style = STYLE + "".join(_beside(one) for one in definitions)
     tables, held = len(record.widths), len(record.all_dependencies)
     counts = f"{count(tables, 'table')}, {_counted(held, 'dependency', 'dependencies')}"
+    counts += f", {count(len(record.code_pairs), 'renumbered code')}" if record.code_pairs else ""
     saved = _counted(len(definitions), "saved query", "saved queries")
     body = [f"<header><h1>{escape(title)}</h1>", f"<p>{counts}, {saved}.</p></header>", "<main>"]
     if definitions:
@@ -101,11 +102,12 @@ def _overview(record: Record, definitions: Sequence[Definition]) -> str:
     header = "".join(f'<th scope="col">{title}</th>' for title in titles)
     table = f'<table class="plain"><thead><tr>{header}</tr></thead><tbody>{"".join(rows)}</tbody></table>'
     kind = "functional dependencies" if record.join_dependencies else "dependencies"
-    joins = " Join dependencies make no form shorter." if record.join_dependencies else ""
+    more = " Join dependencies make no form shorter." if record.join_dependencies else ""
+    more += " Old codes are read as current ones; a long form has those that it was saved with." if record.code_pairs else ""
     return (
         '<h2 id="queries">Saved queries</h2>'
         f"<p>On every database that obeys the {kind} the short form has the answers of the long one, and no query "
-        f'with those answers has fewer rows.{joins}</p><div class="scroll">{table}</div>'
+        f'with those answers has fewer rows.{more}</p><div class="scroll">{table}</div>'
     )
 
 
@@ -150,7 +152,18 @@ def _schema(record: Record, names: Names) -> str:
     tables = "".join(f"<li><code>{escape(str(table))}</code></li>" for table in names.tables)
     held = [f"<li><code>{escape(_arrow(format_dependency(one, names)))}</code></li>" for one in record.all_dependencies]
     dependencies = f"<ul>{''.join(held)}</ul>" if held else "<p>None.</p>"
-    return f'<h2 id="tables">Tables</h2><ul>{tables}</ul><h2 id="dependencies">Dependencies</h2>{dependencies}'
+    return f'<h2 id="tables">Tables</h2><ul>{tables}</ul><h2 id="dependencies">Dependencies</h2>{dependencies}{_renumbered(record, names)}'
+
+
+def _renumbered(record: Record, names: Names) -> str:
+    """The codes that were renumbered; nothing where none was."""
+    if not record.code_pairs:
+        return ""
+    pairs = [f"{format_code(pair.old, names)} \u2192 {format_code(pair.current, names)}" for pair in record.code_pairs]
+    return (
+        '<h2 id="codes">Renumbered codes</h2><p>In every query and database the code on the left is read as the one on the right.</p>'
+        f"<ul>{''.join(f'<li><code>{escape(pair)}</code></li>' for pair in pairs)}</ul>"
+    )
 
 
 def _arrow(text: str) -> str:
@@ -394,6 +407,8 @@ def _facts(one: Definition) -> str:
     facts.append(("Dependencies needed", _codes(needed) or without))
     if one.join_dependencies:
         facts.append(("Join dependencies, which the short form does not use", _codes(format_dependencies(one.join_dependencies, one.names))))
+    if one.old_codes():
+        facts.append(("Old codes of the long form", _codes(is_read(pair, one.names) for pair in one.old_codes())))
     facts.append(("Replaced by the dependencies", count(one.replaced, "variable")))
     return "<dl>" + "".join(f"<dt>{name}</dt><dd>{text}</dd>" for name, text in facts) + "</dl>"
 

@@ -13,8 +13,8 @@ from typing import Dict, List, Optional, Sequence
 from . import latex, sql
 from .definition import Definition, Writer, variable_text
 from .files import FILE_BYTES, Failure, read_bytes, write_files
-from .model import Constant, Dependency, Entry, JoinDependency, Query
-from .notation import Names, format_dependencies, format_dependency
+from .model import CodePair, Constant, Dependency, Entry, JoinDependency, Query
+from .notation import Names, format_codes, format_dependencies, format_dependency, is_read
 from .scan import count
 from .values import format_value
 
@@ -43,15 +43,25 @@ def definition_text(definition: Definition) -> str:
     if definition.join_dependencies:
         lines.append("  Join dependencies, which the short form does not use:")
         lines += [f"    {line}" for line in format_dependencies(definition.join_dependencies, names)]
-    return "\n".join(lines) + "\n" + reduction_text(definition)
+    if definition.code_pairs:
+        lines.append("  Renumbered codes, each read as its current one:")
+        lines += [f"    {line}" for line in format_codes(definition.code_pairs, names)]
+    return "\n".join(lines) + "\n" + _reduction(definition, [])
 
 
 def reduction_text(definition: Definition) -> str:
-    """The two forms for people, the mapping and the count."""
+    """The two forms for people, how old codes of the long one are read, the mapping and the count."""
+    return _reduction(definition, definition.old_codes())
+
+
+def _reduction(definition: Definition, old: Sequence[CodePair]) -> str:
     lines: List[str] = []
     for title, query in (("Long", definition.long), ("Short", definition.short)):
         lines.append(f"  {title} form, {count(len(query.rows), 'row')}:")
         lines.append(textwrap.indent(rule_text(definition, query), "    "))
+    if old:
+        lines.append("  Old codes of the long form:")
+        lines += [f"    {line}" for line in _filled([is_read(pair, definition.names) for pair in old], 72)]
     if definition.mapping is not None:
         lines.append("  Mapping from the long form to the short:")
         lines += _mapping_text(definition)
@@ -126,6 +136,11 @@ def join_dependency_json(dependency: JoinDependency, names: Names) -> Dict[str, 
     return {"table": table.name, "sets": [[table.columns[column] for column in sorted(one)] for one in dependency.sets]}
 
 
+def code_json(pair: CodePair, definition: Definition) -> Dict[str, object]:
+    """A renumbered code: the old one and its current one."""
+    return {"old": entry_json(Constant(pair.old), definition), "current": entry_json(Constant(pair.current), definition)}
+
+
 def definition_json(definition: Definition) -> Dict[str, object]:
     """A definition; `kept` and `images` count rows from 0, and have null and nothing where the short form is never."""
     mapping: Optional[Dict[str, object]] = None
@@ -140,6 +155,7 @@ def definition_json(definition: Definition) -> Dict[str, object]:
         "tables": [{"table": table.name, "columns": list(table.columns)} for table in tables],
         "dependencies": [dependency_json(definition.dependencies[number], definition.names) for number in definition.used],
         "join_dependencies": [join_dependency_json(one, definition.names) for one in definition.join_dependencies],
+        "renumbered_codes": [code_json(pair, definition) for pair in definition.code_pairs],
         "long": query_json(definition.long, definition),
         "short": query_json(definition.short, definition),
         "mapping": mapping,
@@ -186,7 +202,7 @@ def render(definitions: Sequence[Definition], shape: Shape = Shape()) -> str:
 def render_one(definition: Definition, shape: Shape = Shape()) -> str:
     """One definition."""
     if shape.format == "sql":
-        return sql.definition_sql(definition, shape.form or "short", shape.dialect, shape.without_null) + ";\n"
+        return sql.code_note(definition) + sql.definition_sql(definition, shape.form or "short", shape.dialect, shape.without_null) + ";\n"
     if shape.format == "json":
         return _json(_json_of(definition, shape.form))
     if shape.format == "latex":
@@ -230,7 +246,7 @@ _WRITTEN = {
     for kind, pattern in (
         ("a definition in text", r"(?:Place\ [0-7]|Query)\n\ \ (?:Tables|Dependencies\ needed|Long\ form)|ans\("),
         ("LaTeX", r"(?:\\documentclass\{article\}\n\\begin\{document\}\n)?(?:\\(?:begingroup\\raggedright\n|par\\nobreak\\noindent)|Every\ place)"),
-        ("SQL", r"SELECT\ (?:DISTINCT|1\ AS|NULL\ AS)\ |--\ Place\ [0-7],\ "),
+        ("SQL", r"SELECT\ (?:DISTINCT|1\ AS|NULL\ AS)\ |--\ Place\ [0-7],\ |--\ Current\ codes"),
         ("JSON", r"(?:\[\n\ \ )?\{\n\ +\"(?:place|rule)\":\ "),
         ("a page", r"<!DOCTYPE\ html>\n.*:\ saved\ queries\ and\ their\ short\ forms</title>"),
     )

@@ -1,4 +1,4 @@
-"""A record of tables, dependencies and saved queries, and the calls of the engine on it."""
+"""A record of tables, dependencies, renumbered codes and saved queries, and the calls of the engine on it."""
 
 from __future__ import annotations
 
@@ -7,8 +7,10 @@ import os
 import warnings
 from array import array
 from dataclasses import dataclass
+from datetime import date
+from decimal import Decimal
 from functools import cached_property
-from typing import Any, Dict, FrozenSet, Iterable, List, NamedTuple, Optional, Sequence, Set, Tuple, Union
+from typing import Any, Dict, FrozenSet, Iterable, List, NamedTuple, Optional, Sequence, Set, Tuple, Type, Union
 
 from . import engine
 from .data import Absent, Database, DataError, Needed, Shown, of_python
@@ -33,13 +35,16 @@ from .files import (
 from .model import (
     BYTE,
     FROZEN,
+    MOST_CODE_PAIRS,
     MOST_DEPENDENCIES,
     MOST_JOIN_DEPENDENCIES,
     PLACES,
     VARIABLES,
     WORD,
     Words,
+    Added,
     AnyDependency,
+    CodePair,
     Constant,
     Contents,
     Dependency,
@@ -55,23 +60,26 @@ from .model import (
     encode_query,
     items,
     mask_of,
+    readings,
     whole,
 )
 from .notation import (
     Names,
     NotationError,
     Table,
+    code_fault,
     constants,
     count,
     format_datum,
     format_dependency,
     format_names,
+    is_read,
     never_varies,
-    parse_dependencies,
+    parse_added,
     parse_rule,
     read_names_file,
 )
-from .values import FIRST_CODE
+from .values import FIRST_CODE, Value
 
 # A row of a database: the number of its relation, and its values.
 DataRow = Tuple[int, Tuple[int, ...]]
@@ -139,6 +147,11 @@ class BrokenJoin:
 
 
 AnyBroken = Union[Broken, BrokenJoin]
+
+
+def rows_of(broken: AnyBroken) -> Tuple[int, ...]:
+    """The positions of the rows that break a dependency."""
+    return broken.rows if isinstance(broken, BrokenJoin) else (broken.first, broken.second)
 
 
 def _is_archive(file: bytes) -> bool:
@@ -262,7 +275,8 @@ class Record:
 
     def __repr__(self) -> str:
         tables = ", ".join(table.name for table in self.names.tables)
-        return f"<Record of {tables}; {count(len(self.all_dependencies), 'dependency')}; filled places: {_listed(self.filled()) or 'none'}>"
+        held = count(len(self.all_dependencies), "dependency") + (f", {count(len(self.code_pairs), 'renumbered code')}" if self.code_pairs else "")
+        return f"<Record of {tables}; {held}; filled places: {_listed(self.filled()) or 'none'}>"
 
     def __str__(self) -> str:
         from .text import unpack
@@ -272,7 +286,7 @@ class Record:
     def _repr_html_(self) -> str:
         from .text import unpack_parts
 
-        tables, dependencies, rules = unpack_parts(self, self.names)
+        tables, dependencies, codes, rules = unpack_parts(self, self.names)
 
         def table(heads: Sequence[str], rows: Iterable[Sequence[object]]) -> str:
             top = "".join(f"<th style='text-align:left'>{head}</th>" for head in heads)
@@ -283,6 +297,8 @@ class Record:
         parts = [table(["Table", "Columns"], [(held.name, ", ".join(held.columns)) for held in tables])]
         if dependencies:
             parts.append(table(["Dependencies"], [(line,) for line in dependencies]))
+        if codes:
+            parts.append(table(["Renumbered codes"], [(line,) for line in codes]))
         if rules:
             parts.append(table(["Place", "Query"], rules))
         return "".join(parts)
@@ -296,17 +312,20 @@ class Record:
         """The names of the tables, variables and constants; R0, R1, .. where there are none."""
         if self._names is None:
             self._names = Names.default(self.widths)
-        self._names.values.reserve(number for query in self.queries if query is not None for number in constants(query))
+        self._names.values.reserve(self._constants())
         return self._names
 
+    def _constants(self) -> List[int]:
+        """The numbers of the pairs of codes, then those of the saved queries' constants."""
+        return self.renumbered() + [number for query in self.queries if query is not None for number in constants(query)]
+
     def codes(self) -> List[int]:
-        """The constants of the saved queries that may stand for a text, a date or another value."""
-        return [number for query in self.queries if query is not None for number in constants(query) if number >= FIRST_CODE]
+        """The constants of the saved queries, and the renumbered codes, that may stand for a text, a date or another value."""
+        return [number for number in self._constants() if number >= FIRST_CODE]
 
     def own_names(self) -> Names:
-        """The names with the values that the saved queries have, and no others."""
-        used = [number for query in self.queries if query is not None for number in constants(query)]
-        return Names(self.names.tables, self.names.variables, self.names.values.only(used))
+        """The names with the values that the saved queries and the renumbered codes have, and no others."""
+        return Names(self.names.tables, self.names.variables, self.names.values.only(self._constants()))
 
     @property
     def widths(self) -> Tuple[int, ...]:
@@ -329,8 +348,17 @@ class Record:
         return (*self.dependencies, *self.join_dependencies)
 
     @property
+    def code_pairs(self) -> Tuple[CodePair, ...]:
+        """The codes that were renumbered, each with its current one, in the order added."""
+        return self._contents.code_pairs
+
+    def renumbered(self) -> List[int]:
+        """The numbers of the renumbered codes, old and current ones."""
+        return [number for pair in self.code_pairs for number in (pair.old, pair.current)]
+
+    @property
     def queries(self) -> Tuple[Optional[Query], ...]:
-        """The eight places, None where vacant."""
+        """The eight places, None where vacant; queries have the codes that they were put in with."""
         return self._contents.queries
 
     def filled(self) -> List[int]:
@@ -367,13 +395,13 @@ class Record:
         all rows of the relation agree on the right one: it never varies.
 
         A text such as `layer: flight, level -> height, temperature` adds one for each column on its right, `flight: -> site`
-        one without a left column, and `layer: join (flight, level, height) (flight, level, temperature)` a join dependency,
-        as `add_join` does.
+        one without a left column, `layer: join (flight, level, height) (flight, level, temperature)` a join dependency,
+        as `add_join` does, and `code 5 -> 9` a renumbered code, as `add_code` does.
         """
         if isinstance(relation, str):
             if left is not None or right is not None:
                 raise ValueError("a dependency in words stands alone; where columns are given the table is given by its number")
-            return self.add_all(parse_dependencies(relation, self.names))
+            return self.add_all(parse_added(relation, self.names))
         if left is None or right is None:
             raise ValueError("a functional dependency has left columns, () for none, and a right column")
         try:
@@ -386,27 +414,57 @@ class Record:
         masks = [mask_of(one) for one in items("the sets of a join dependency", sets)]
         return self._of(engine.add_join(self.file, relation, bytes(masks)), self._names, self._named)
 
-    def add_all(self, dependencies: Iterable[AnyDependency]) -> Record:
-        """The record with more dependencies of either kind, all or none."""
-        more = list(dependencies)
+    def add_code(self, old: Value, current: Value) -> Record:
+        """The record with one more renumbered code: in every query and database the old one is read as the current one.
+
+        Saved queries keep the codes that they were put in with; what is made of them has current ones. A whole number is
+        a code itself, as in Constant; a text, or another value that has a number of its own, stands for that number.
+        """
+        pair = CodePair(self._code("an old code", old), self._code("a current code", current))
+        try:
+            return self._of(engine.add_code(self.file, pair.old, pair.current), self._names, self._named)
+        except Refused as refused:
+            meaning = code_fault(pair, self.code_pairs, self.names) if refused.number == 18 else ""
+            raise Refused(refused.number, meaning or refused.meaning) from None
+
+    def _code(self, what: str, value: Value) -> int:
+        """The number of a code."""
+        if isinstance(value, (str, Decimal, date, float)):
+            return self.names.values.encode(value)
+        return whole(what, value, WORD)
+
+    def _add(self, one: Added) -> Record:
+        if isinstance(one, CodePair):
+            return self.add_code(one.old, one.current)
+        return self.add_join(one.relation, one.sets) if isinstance(one, JoinDependency) else self.add(one.relation, one.left, one.right)
+
+    def add_all(self, more: Iterable[Added]) -> Record:
+        """The record with more dependencies of either kind and more renumbered codes, all or none."""
+        held = list(more)
         record = self
         try:
-            for one in more:
-                record = record.add_join(one.relation, one.sets) if isinstance(one, JoinDependency) else record.add(one.relation, one.left, one.right)
+            for one in held:
+                record = record._add(one)
         except Refused as refused:
-            raise self._too_many(refused, more) from None
+            raise self._too_many(refused, held) from None
         return record
 
-    def _too_many(self, refused: Refused, more: Sequence[AnyDependency]) -> Refused:
-        """A refusal of more dependencies in words that count them, unless as many as there may be are held already."""
-        joins = refused.number == 16
-        held, most = (len(self.join_dependencies), MOST_JOIN_DEPENDENCIES) if joins else (len(self.dependencies), MOST_DEPENDENCIES)
-        if refused.number not in (13, 16) or held == most:
+    def _too_many(self, refused: Refused, more: Sequence[Added]) -> Refused:
+        """A refusal of more dependencies or renumbered codes in words that count them, unless as many as there may be are held already."""
+        kinds: Dict[int, Tuple[Type[Added], int, int, str]] = {
+            13: (Dependency, len(self.dependencies), MOST_DEPENDENCIES, "functional dependency"),
+            16: (JoinDependency, len(self.join_dependencies), MOST_JOIN_DEPENDENCIES, "join dependency"),
+            19: (CodePair, len(self.code_pairs), MOST_CODE_PAIRS, "renumbered code"),
+        }
+        if refused.number not in kinds:
             return refused
-        new = sum(isinstance(one, JoinDependency) == joins for one in more)
-        kind = count(held, "join dependency" if joins else "functional dependency")
-        each = "" if joins else ", and each column on the right counts one"
-        return Refused(refused.number, f"{kind} {'is' if held == 1 else 'are'} held, and {new} more would make {held + new}; there may be {most}{each}")
+        kind, held, most, name = kinds[refused.number]
+        if held == most:
+            return refused
+        new = sum(isinstance(one, kind) for one in more)
+        each = ", and each column on the right counts one" if kind is Dependency else ""
+        are = "is" if held == 1 else "are"
+        return Refused(refused.number, f"{count(held, name)} {are} held, and {new} more would make {held + new}; there may be {most}{each}")
 
     def put(self, place: int, query: Union[str, Query], variables: Optional[Dict[int, str]] = None) -> Record:
         """The record with a query, or the query of a rule, in a vacant place. A rule brings the names of its variables."""
@@ -525,7 +583,7 @@ class Record:
         return True
 
     def check(self, p: int, q: int, mapping: Mapping) -> bool:
-        """Whether `mapping` is one from the query at q to the query at p as it is stored.
+        """Whether `mapping` is one from the query at q to the query at p, neither of them chased. Old codes in it too are read as current ones.
 
         A variable that `mapping` leaves out goes to constant 0, as one that is not in q must.
         """
@@ -551,7 +609,9 @@ class Record:
     def broken(self, database: Union[Database, Words], first: Iterable[int] = ()) -> Optional[AnyBroken]:
         """The first dependency that the rows of a database break, whatever tables it has; if there is one, one of the relations `first`."""
         words = database.words if isinstance(database, Database) else database
-        found = engine.test(self.file, words, bool(self.join_dependencies))
+        pairs = self.pairs_for(database) if isinstance(database, Database) else self.code_pairs
+        file = self.file if pairs == self.code_pairs else self._bare([*self.all_dependencies, *pairs]).file
+        found = engine.test(file, words, bool(self.join_dependencies))
         if found is None:
             return None
         wanted = set(first)
@@ -559,12 +619,30 @@ class Record:
         joins = [number for number, dependency in enumerate(self.join_dependencies) if dependency.relation in wanted]
         if functional + joins and found.dependency not in (joins if found.is_join else functional):
             some: List[AnyDependency] = [*(self.dependencies[number] for number in functional), *(self.join_dependencies[number] for number in joins)]
-            again = engine.test(Record.open(self.widths).add_all(some).file, words, bool(joins))
+            again = engine.test(self._bare([*some, *pairs]).file, words, bool(joins))
             if again is not None:
                 found = again._replace(dependency=(joins if again.is_join else functional)[again.dependency])
         if not found.is_join:
             return Broken(found.dependency, *found.rows)
         return BrokenJoin(found.dependency, found.rows[: len(self.join_dependencies[found.dependency].sets)])
+
+    def _bare(self, held: Iterable[Added]) -> Record:
+        """A record of the same tables that holds this, without queries."""
+        return Record.open(self.widths).add_all(held)
+
+    def pairs_for(self, database: Database) -> Tuple[CodePair, ...]:
+        """The pairs of codes with the numbers by a database's dictionary, which may have grown apart from this one."""
+
+        def number(held: int) -> int:
+            return database.values.encode(self.names.values.decode(held))
+
+        return tuple(CodePair(number(pair.old), number(pair.current)) for pair in self.code_pairs)
+
+    def read_in(self, broken: AnyBroken, database: Database) -> List[str]:
+        """For a message, how the old codes are read that the rows which break a dependency have in its columns."""
+        columns = self.dependency_of(broken).columns()
+        there = {words[column] for words in map(database.words_at, rows_of(broken)) for column in columns}
+        return [is_read(held, self.names) for held, pair in zip(self.code_pairs, self.pairs_for(database)) if pair.old in there]
 
     def dependency_of(self, broken: AnyBroken) -> AnyDependency:
         """The dependency that a database breaks."""
@@ -573,7 +651,10 @@ class Record:
     def missing(self, broken: BrokenJoin, database: Database) -> str:
         """The row that a database lacks to obey a join dependency, for a message."""
         join = self.join_dependencies[broken.dependency]
-        return format_datum(self.names.tables[join.relation].name, join.joined([database.stands(position).values for position in broken.rows]))
+        current = readings(self.pairs_for(database))
+        rows = [[current.get(word, word) for word in database.words_at(position)] for position in broken.rows]
+        values = [database.shown(join.relation, column)[word] for column, word in enumerate(join.joined(rows))]
+        return format_datum(self.names.tables[join.relation].name, values)
 
     def consequence(self, broken: AnyBroken, query: Query) -> str:
         """What a broken dependency, which `broken` finds for the relations of a query, means for its answers."""
@@ -665,14 +746,15 @@ class Record:
         meant = database.text_as_variable(query, variables)
         if meant is not None:
             warnings.warn(f"{meant}; a text stands between quotes", stacklevel=4)
-        double = database.text_and_number([row.relation for row in query.rows], constants(query))
+        there = [*constants(query), *self.renumbered()]
+        double = database.text_and_number([row.relation for row in query.rows], there, readings(self.pairs_for(database)))
         if double is not None:
             warnings.warn(f"the text {double!r} and the number {double} are different values, and both are here", stacklevel=4)
         found = self.broken(database, [row.relation for row in query.rows])
         if found is not None:
-            positions = found.rows if isinstance(found, BrokenJoin) else (found.first, found.second)
-            shown = [database.say(position) for position in positions]
+            shown = [database.say(position) for position in rows_of(found)]
             shown += [f"missing: {self.missing(found, database)}"] if isinstance(found, BrokenJoin) else []
+            shown += self.read_in(found, database)
             dependency = self.dependency_of(found)
             says = never_varies(dependency, self.names)
             shown = [says, *shown] if says else shown
@@ -682,15 +764,16 @@ class Record:
             )
 
     def _translated(self, place: int, database: Database) -> Tuple[Record, int]:
-        """A record whose query at a place has the constants by the database's dictionary, which may have grown apart from this one."""
-        query = self.query(place)
+        """A record whose query at a place, and whose pairs of codes, have the numbers by the database's dictionary, which may have grown
+        apart from this one."""
+        query, pairs = self.query(place), self.pairs_for(database)
 
         def entry(held: Entry) -> Entry:
             return Constant(database.values.encode(self.names.values.decode(held.number))) if isinstance(held, Constant) else held
 
         rows = [Row(row.relation, tuple(map(entry, row.entries))) for row in query.rows]
         same = Query(tuple(map(entry, query.head)), tuple(rows), query.head_length)
-        return (self, place) if same == query else (self.alone(place).drop(place).put(0, same), 0)
+        return (self, place) if (same, pairs) == (query, self.code_pairs) else (self._bare(pairs).put(0, same), 0)
 
     def database(self, data: Any, null: Absent = None) -> Database:
         """A database for `test` and `evaluate`.

@@ -174,7 +174,7 @@ _CURES = [
     for pattern, cure in (
         (r"\.[^\S\n]*(?:#|\n|\Z)", "a line ends without one"),
         (r"\.", "a decimal has digits before and after its point"),
-        (r"(?<==)>|[\u2192\u27f6]", "'->' goes between the columns of a dependency"),
+        (r"(?<==)>|[\u2192\u27f6]", "'->' goes between the columns of a dependency, or between two codes"),
         (r"\u2205", "a column that never varies has nothing before its '->', as in flight: -> site"),
         (r"\u22c8", "a join dependency is written with the word, as in layer: join (flight, level) (level, height)"),
         (r"<-", "':-' goes between the head of a rule and its rows"),

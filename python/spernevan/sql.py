@@ -5,8 +5,9 @@
     WHERE t1."site" = 'Lindenberg'
       AND t2."flight" = t1."number"
 
-The statement has the answers of the query on the tables of that name, if no column that it uses has a NULL and the
-columns that a variable stands in have one type. A head of length 0 gives one row if there is an answer and none
+The statement has the answers of the query on the tables of that name, if no column that it uses has a NULL, the
+columns that a variable stands in have one type, and no column has an old code where codes were renumbered; its
+constants are current ones. A head of length 0 gives one row if there is an answer and none
 otherwise; never gives no row, under the columns of its head. Every name is quoted, so it is the table's or column's
 own, capitals included.
 """
@@ -19,7 +20,7 @@ from typing import Dict, List, Optional, Sequence, Set, Tuple
 
 from .definition import Decode, Definition, itself
 from .model import Constant, Entry, Query, Variable
-from .notation import Names
+from .notation import Names, is_read
 
 DIALECTS = ("sqlite", "postgresql")
 FORMS = ("short", "long")
@@ -146,10 +147,18 @@ def definition_sql(
     if form not in FORMS:
         raise ValueError(f"the form must be {' or '.join(FORMS)}, not {form!r:.40}")
     columns = labels(definition.long, definition.names, definition.variables)
-    query = definition.short if form == "short" else definition.long
+    query = (definition.short if form == "short" else definition.long).read(definition.code_pairs)
     return statement(
         query, definition.names, definition.variables, dialect, definition.decode, columns, without_null
     )
+
+
+def code_note(definition: Definition) -> str:
+    """A comment that says which codes the tables of a statement must not have; nothing where none was renumbered."""
+    if not definition.code_pairs:
+        return ""
+    read = "; ".join(is_read(pair, definition.names) for pair in definition.code_pairs)
+    return f"-- Current codes only, in the tables too: {read}\n"
 
 
 def archive_sql(
@@ -157,6 +166,6 @@ def archive_sql(
 ) -> str:
     """The statements of several definitions, each under a line that says which it is."""
     return "\n".join(
-        f"-- {definition.title}, {form} form\n{definition_sql(definition, form, dialect, without_null)};\n"
+        f"-- {definition.title}, {form} form\n{code_note(definition)}{definition_sql(definition, form, dialect, without_null)};\n"
         for definition in definitions
     )

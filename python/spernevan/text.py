@@ -9,6 +9,9 @@
     flight: -> site
     sonde: join (number, calibration) (number, maker)
 
+    # codes that were renumbered: the old one is read as the current one, in every query and database
+    code 'S0451' -> '4170451'
+
     # saved queries, by place; the other places are vacant
     0: ans(f, c) :- flight(f, s, 'Lindenberg'), sonde(s, c, m)
 
@@ -22,14 +25,16 @@ from __future__ import annotations
 from typing import Dict, List, NamedTuple, Sequence, Tuple
 
 from .engine import Refused
-from .model import MOST_DEPENDENCIES, MOST_JOIN_DEPENDENCIES, AnyDependency, JoinDependency, Query
+from .model import MOST_CODE_PAIRS, MOST_DEPENDENCIES, MOST_JOIN_DEPENDENCIES, AnyDependency, CodePair, JoinDependency, Query
 from .notation import (
     Names,
     Reader,
     Table,
     Token,
+    begins_code,
     blanked,
-    constants,
+    code_fault,
+    format_codes,
     format_dependencies,
     format_entries,
     format_parts,
@@ -37,6 +42,7 @@ from .notation import (
     format_variable_names,
     key_dependencies,
     parse_rule,
+    read_code,
     read_dependencies,
     read_entry,
     read_keyed_table,
@@ -45,7 +51,7 @@ from .notation import (
     read_variable_names,
 )
 from .record import Record
-from .values import FIRST_CODE, Values
+from .values import Values
 
 
 def pack(text: str, source: str = "text") -> Tuple[Record, Names]:
@@ -53,6 +59,7 @@ def pack(text: str, source: str = "text") -> Tuple[Record, Names]:
     reader = Reader(text, source)
     tables: List[Table] = []
     dependencies: List[AnyDependency] = []
+    pairs: List[CodePair] = []
     queries: Dict[int, Tuple[Token, Query]] = {}
     variables: Dict[int, Dict[int, str]] = {}
     given: Dict[int, Tuple[Token, Dict[int, str]]] = {}
@@ -86,6 +93,14 @@ def pack(text: str, source: str = "text") -> Tuple[Record, Names]:
             else:
                 query, variables[place] = read_rule(reader, names, given[place][1] if place in given else None)
                 queries[place] = start, query
+        elif begins_code(reader, tables):
+            pair = read_code(reader, values)
+            fault = code_fault(pair, pairs, names)
+            if fault:
+                raise reader.error(start, fault)
+            if len(pairs) == MOST_CODE_PAIRS:
+                raise reader.error(start, f"an archive has {MOST_CODE_PAIRS} renumbered codes at most")
+            pairs.append(pair)
         elif start.text == "ans":
             raise reader.error(start, "a saved query has its place before it, as in 0: ans(..")
         elif start.kind == "name" and reader.then.kind == ":":
@@ -108,7 +123,7 @@ def pack(text: str, source: str = "text") -> Tuple[Record, Names]:
     names = Names(tuple(tables), variables, values)
     at = reader.next
     try:
-        record = Record.open(names.tables).add_all(dependencies)
+        record = Record.open(names.tables).add_all([*dependencies, *pairs])
         for place in sorted(queries):
             at, query = queries[place]
             record = record.put(place, query)
@@ -118,10 +133,11 @@ def pack(text: str, source: str = "text") -> Tuple[Record, Names]:
 
 
 class Parts(NamedTuple):
-    """A record for people: its tables, its dependencies as lines, and its queries as rules with their places."""
+    """A record for people: its tables, its dependencies and renumbered codes as lines, and its queries as rules with their places."""
 
     tables: Tuple[Table, ...]
     dependencies: List[str]
+    codes: List[str]
     rules: List[Tuple[int, str]]
 
 
@@ -129,13 +145,14 @@ def unpack_parts(record: Record, names: Names) -> Parts:
     """The parts of a record's text."""
     names.fit(record.widths)
     rules = [(place, _set_rule(record, place, names, _shown(record, place, names)[0])) for place in record.filled()]
-    return Parts(names.tables, format_dependencies(record.all_dependencies, names), rules)
+    return Parts(names.tables, format_dependencies(record.all_dependencies, names), format_codes(record.code_pairs, names), rules)
 
 
 def unpack(record: Record, names: Names) -> str:
     """The text of a record; pack gives the record back, to the byte."""
     names.fit(record.widths)
     groups: List[Sequence[str]] = [[str(table) for table in names.tables], format_dependencies(record.all_dependencies, names), _entries(record, names)]
+    groups.append(format_codes(record.code_pairs, names))
     rules: List[str] = []
     for place in record.filled():
         shown, given = _shown(record, place, names)
@@ -147,16 +164,11 @@ def unpack(record: Record, names: Names) -> str:
 
 def _entries(record: Record, names: Names) -> List[str]:
     """The lines that give values their numbers; none if pack gives the same numbers without them."""
-    used = [number for place in record.filled() for number in _constants(record, place) if number >= FIRST_CODE]
+    used = record.codes()
     again = Values()
     if all(again.encode(names.values.decode(number)) == number for number in used):
         return []
     return format_entries(names.values.only(used))
-
-
-def _constants(record: Record, place: int) -> List[int]:
-    query = record.queries[place]
-    return [] if query is None else constants(query)
 
 
 def _shown(record: Record, place: int, names: Names) -> Tuple[Dict[int, str], Dict[int, str]]:

@@ -229,13 +229,13 @@ class Refusals(Calls):
 
     def test_lent_buffers_stay_as_they_were(self):
         library, file = engine._library(), self.record.file
-        out = (ctypes.c_uint8 * 4445)(*[7] * 4445)
+        out = (ctypes.c_uint8 * engine.LONGEST_FILE)(*[7] * engine.LONGEST_FILE)
         size = ctypes.c_size_t(77)
         self.assertEqual(library.spernevan_drop(file, len(file), 5, out, len(out), ctypes.byref(size)), 11)
         self.assertEqual(library.spernevan_write(file, len(file), out, len(file) - 1, ctypes.byref(size)), 10)
-        self.assertEqual((bytes(out), size.value), (b"\7" * 4445, 77))
+        self.assertEqual((bytes(out), size.value), (b"\7" * len(out), 77))
         self.assertEqual(library.spernevan_write(file, len(file), out, len(file), ctypes.byref(size)), 0)
-        self.assertEqual((bytes(out), size.value), (file + b"\7" * (4445 - len(file)), len(file)))
+        self.assertEqual((bytes(out), size.value), (file + b"\7" * (len(out) - len(file)), len(file)))
         words, answers = array("I", [0, 1, 2, 0, 3, 4]), array("I", [9] * 4)
         lent = engine._words(words)
         room = engine._words(answers)[0]
@@ -307,7 +307,7 @@ class Hostile(Calls):
             try:
                 record = Record(bytes(file))
             except Refused as refused:
-                self.assertIn(refused.number, [*range(1, 7), 15])
+                self.assertIn(refused.number, [*range(1, 7), 15, 18])
                 continue
             accepted += 1
             self.assertEqual(engine.write(record.file), bytes(file))
@@ -335,7 +335,7 @@ class Random(Calls):
         rng = random.Random(6)
         with tempfile.TemporaryDirectory() as folder:
             for number in range(10 * MANY):
-                record = random_record(rng, most_joins=4)
+                record = random_record(rng, most_joins=4, most_codes=4)
                 path = Path(folder, f"{number}.file")
                 record.write(path)
                 self.assertEqual(path.read_bytes(), record.file)
@@ -347,10 +347,12 @@ class Random(Calls):
             record = record.add(7, range(8), 7)
         for _ in range(4):
             record = record.add_join(7, [range(8)] * 4)
+        for number in range(16):
+            record = record.add_code(number, 2**31 - 1)
         row = Row(7, tuple(v(n) for n in range(88, 96)))
         for place in range(8):
             record = record.put(place, Query(row.entries, (row,) * 12))
-        self.assertEqual(len(record.file), 4445)
+        self.assertEqual((len(record.file), engine.LONGEST_FILE), (4574, 4574))
         self.assertEqual(Record(record.file), record)
         self.assertEqual(record.shorten(7).result, Query(row.entries, (row,)))
 
@@ -649,6 +651,7 @@ class Header(unittest.TestCase):
         self.assertEqual(sizes, ours)
         kinds = {
             "uint8_t": ctypes.c_uint8,
+            "uint32_t": ctypes.c_uint32,
             "size_t": ctypes.c_size_t,
             "uint8_t*": ctypes.POINTER(ctypes.c_uint8),
             "uint32_t*": ctypes.POINTER(ctypes.c_uint32),

@@ -19,7 +19,7 @@ PROGRAM = r"""
 #include "spernevan.h"
 
 /* Opens a record of one relation of two columns, saves ans(y) :- R(x, y), R(x, 7), and evaluates it on three rows, with and without working memory;
-   then says that the relation is the product of its columns, which the rows are not. */
+   then says that the relation is the product of its columns, which the rows are not; and that the code 7 is 8 now. */
 int main(void) {
     const uint8_t widths[] = {2};
     const uint8_t query[] = {1, 2, 1, 1, 0, 0, 0,
@@ -45,10 +45,13 @@ int main(void) {
     uint8_t joined = spernevan_add_join(saved, size, 0, sets, 2, file, sizeof file, &length);
     tested = spernevan_test(file, length, words, 9, &verdict, &dependency, &first, &second, &third, &fourth);
     printf("%d %zu %d %d %zu %zu %zu %zu %zu\n", joined, length - size, tested, verdict, dependency, first, second, third, fourth);
+    uint8_t coded = spernevan_add_code(saved, size, 7, 8, file, sizeof file, &length);
+    done = spernevan_evaluate(file, length, 0, words, 9, answers, 3, &count);
+    printf("%d %zu %d %zu %u %u\n", coded, length - size, done, count, (unsigned)answers[0], (unsigned)answers[1]);
     return 0;
 }
 """
-SAID = "0 0 0 2 7 9 5\n0 2 7 9 6\n0 2 0 2 0 1 0 0 0\n0 5 0 2 0 0 2 0 0\n"
+SAID = "0 0 0 2 7 9 5\n0 2 7 9 6\n0 2 0 2 0 1 0 0 0\n0 5 0 2 0 0 2 0 0\n0 9 0 2 8 9\n"
 
 
 @with_engine
@@ -89,6 +92,7 @@ class ShortBuffers(unittest.TestCase):
         self.tried("open", (bytes([2, 2]), 2))
         self.tried("add", (*file, 1, 1, 1))
         self.tried("add_join", (*file, 1, bytes([1, 2]), 2))
+        self.tried("add_code", (*file, 7, 2**31 - 1))
         self.tried("put", (*file, 2, part, len(part)))
         self.tried("drop", (*file, 1))
         self.tried("reduce", (*file, 0, 2), (ctypes.byref(byte), mapping, 192))

@@ -138,7 +138,7 @@ class Documents(unittest.TestCase):
         found += define_all(station, station.names)
         self.assertIn(r"$\emptyset$", latex.archive(found))
         for _ in range(6):
-            other = context.random_record(rng, most_joins=4)
+            other = context.random_record(rng, most_joins=4, most_codes=4)
             found += define_all(other, Names.default(other.widths))
         with tempfile.TemporaryDirectory() as folder:
             body = latex.archive(found)

@@ -46,6 +46,11 @@ def file(*parts):
     return struct.pack("<H", len(parts)) + pairs + b"".join(parts)
 
 
+def coded(*pairs):
+    """What part 0 has after the widths: pairs of an old and a current code."""
+    return bytes([len(pairs)]) + b"".join(struct.pack("<II", *pair) for pair in pairs)
+
+
 ONE = part("v0", "0 v0 v1")  # a sound query
 LOOSE = part("v2", "0 v0 v1")  # its head variable is in no row
 WIDE = part("v0", "0 v0 v96")  # a variable above 95
@@ -169,11 +174,28 @@ class Listings(Program):
         self.assertEqual(self.listed(file(R, held, repeated)), self.listed(file(R, NONE, repeated)))
         self.assertEqual(self.listed(file(R, A_TO_B + bytes([1, 0, 2, 3, 3]), repeated)), self.listed(file(R, A_TO_B, repeated)))
 
+    def test_renumbered_codes(self):
+        """Each old code is read as its current one, before anything else is done."""
+        pairs = coded((5, 9), (2147483647, 0), (6, 9))
+        query = part("v0 5", "0 v0 5", "0 v0 9", "0 v1 6", "0 2147483647 v2")
+        self.lines(
+            file(R + pairs, NONE, query), "place 0 rows 4 kept 2 replaced 0", "head v0 9", "row 0 0 v2", "row 0 v0 9", "map v0=v0 v1=v0 v2=v2"
+        )
+        self.lines(file(R + pairs, A_TO_B, part("", "0 3 5", "0 3 9")), "place 0 rows 2 kept 1 replaced 0", "head", "row 0 3 9", "map")
+        self.lines(file(R + pairs, A_TO_B, part("", "0 3 5", "0 3 8")), "place 0 rows 2 never replaced 0")
+        self.lines(file(R + pairs, A_TO_B, part("v1", "0 5 v0", "0 6 v1")), "place 0 rows 2 kept 1 replaced 1", "head v1", "row 0 9 v1", "map v0=v1 v1=v1")
+        # 0 may be an old code, and what is not in use stays.
+        zero = coded((0, 9))
+        self.lines(file(R + zero, NONE, b"\x02\x00"), "place 0 rows 0 never replaced 0")
+        self.lines(file(R + zero, NONE, part("0", "0 v0 0")), "place 0 rows 1 kept 1 replaced 0", "head 9", "row 0 v0 9", "map v0=v0")
+
     def test_longest(self):
         row = "7 " + " ".join(["2147483647"] * 8)
+        pairs = coded(*[(code, 2147483647) for code in range(16)])
         dependencies = bytes([32] + [7, 255, 7] * 32 + [4] + [7, 4, 255, 1, 2, 128] * 4)
-        data = file(bytes([8] + [8] * 8), dependencies, *[part(" ".join(["v95"] * 8), *["7" + " v95" * 8] * 11, row)] * 8)
-        self.assertEqual(len(data), 4445)
+        old = "7 " + " ".join(map(str, range(8, 16)))
+        data = file(bytes([8] + [8] * 8) + pairs, dependencies, *[part(" ".join(["v95"] * 8), *["7" + " v95" * 8] * 11, old)] * 8)
+        self.assertEqual(len(data), 4574)
         kept = ["kept 2 replaced 0", "head" + " v95" * 8]
         said = self.listed(data).decode().splitlines()
         self.assertEqual(len(said), 8 * 5)
@@ -206,8 +228,18 @@ class Refused(Program):
         self.each(2, sound[:2] + sound[6:10] + sound[2:6] + sound[10:])
 
     def test_3(self):
-        parts = b"", b"\x00", b"\x01", b"\x09" + b"\x01" * 9, b"\x01\x00", b"\x01\x09", b"\x02\x01", b"\x01\x01\x01", b"\x02\x01\x00"
-        self.each(3, *[file(one, NONE) for one in parts])
+        parts = b"", b"\x00", b"\x01", b"\x09" + b"\x01" * 9, b"\x01\x00", b"\x01\x09", b"\x02\x01", b"\x02\x01\x00"
+        self.each(3, *[file(one, NONE) for one in parts], file(b"\x01\x09" + coded((5, 5)), NONE))
+
+    def test_18(self):
+        pairs = [
+            ((5, 5),), ((2**31, 5),), ((5, 2**31),), ((2**32 - 1, 2**32 - 2),), ((5, 9), (5, 8)), ((5, 9), (5, 9)), ((5, 9), (9, 8)), ((5, 9), (4, 5)),
+            tuple((code, 99) for code in range(17)), (),
+        ]
+        lengths = [b"\x01", coded((5, 9))[:-1], coded((5, 9)) + b"\x00", b"\x02" + coded((5, 9))[1:], b"\x00" + coded((5, 9))[1:]]
+        past = [*[coded(*one) for one in pairs], *lengths]
+        self.each(18, *[file(R + one, part_1) for one in past for part_1 in (NONE, b"\x01", b"")], *[file(R + one, NONE, WIDE) for one in past])
+        self.each(4, file(R + coded((5, 9)), b"\x01"))
 
     def test_4(self):
         dependencies = bytes([1, 1, 1, 0]), bytes([1, 1, 0, 0]), bytes([1, 0, 4, 0]), bytes([1, 0, 1, 2]), bytes([1, 0, 0, 2]), bytes([1, 0, 128, 0])

@@ -118,7 +118,7 @@ class Page(unittest.TestCase):
     def test_random_archives(self):
         rng = random.Random(11)
         for _ in range(3 * context.MANY):
-            record = context.random_record(rng, most_joins=rng.choice([0, 4]))
+            record = context.random_record(rng, most_joins=rng.choice([0, 4]), most_codes=rng.choice([0, 4]))
             self.check(record, Names.default(record.widths))
 
     def test_few_places(self):

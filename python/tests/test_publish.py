@@ -17,8 +17,8 @@ from test_command import FLIGHTS, Command, run
 
 
 def under(record, numbers, *queries):
-    """A record with some of the dependencies and these queries."""
-    made = Record.open(record.widths)
+    """A record with some of the dependencies, the renumbered codes and these queries."""
+    made = Record.open(record.widths).add_all(record.code_pairs)
     for number in numbers:
         dependency = record.dependencies[number]
         made = made.add(dependency.relation, dependency.left, dependency.right)
@@ -33,7 +33,7 @@ class Definitions(unittest.TestCase):
         rng = random.Random(3)
         needed = 0
         for _ in range(8 * context.MANY):
-            record = context.random_record(rng, most_width=3, most_relations=2, most_dependencies=8, most_joins=4)
+            record = context.random_record(rng, most_width=3, most_relations=2, most_dependencies=8, most_joins=4, most_codes=4)
             for one in define_all(record, Names.default(record.widths)):
                 short = record.shorten(one.place)
                 self.assertEqual((one.short, one.mapping, one.replaced), (short.result, short.mapping, short.replaced))
@@ -87,7 +87,7 @@ class Definitions(unittest.TestCase):
         """A rule needs no vacant place, and its definition is that of the same query in a place."""
         rng = random.Random(4)
         for _ in range(3 * context.MANY):
-            record = context.random_record(rng, most_width=3, most_relations=2, most_dependencies=8, most_joins=4)
+            record = context.random_record(rng, most_width=3, most_relations=2, most_dependencies=8, most_joins=4, most_codes=4)
             names = Names.default(record.widths)
             for place, query in enumerate(record.queries):
                 if query is not None:

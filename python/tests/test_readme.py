@@ -28,7 +28,8 @@ class Readme(unittest.TestCase):
     def test_commands(self):
         """Each command line between backquotes that is followed by its output; of `list`, the beginning of it."""
         shown = re.findall(r"`\./spernevan ([^`]+)`[^`\n]*:\n\n((?:    .*\n)+)", README)
-        commands = ["list", "compare", "evaluate", "evaluate", "show", "determined", "test", "compare", "test", "define", "define"]
+        commands = ["list", "compare", "evaluate", "evaluate", "show", "determined", "test", "compare", "test"]
+        commands += ["equivalent", "evaluate", "show", "define", "define"]
         self.assertEqual([line.split()[0] for line, _ in shown], commands)
         for line, wanted in shown:
             command = shlex.split(line)

@@ -131,7 +131,7 @@ class Text(unittest.TestCase):
             (table + "flight -> sonde", "2:8: ':' was expected, not '->'"),
             (table + "-> sonde", "2:1: a line such as flight(number, sonde), flight: number -> sonde or 0: ans(f) :- .. was expected, not '->'"),
             (table + "flight: number > sonde", "2:16: '>' has no meaning here; a rule has rows alone, joined by equal values, and no comparisons; a dep"),
-            (table + "flight: number \u2192 sonde", "2:16: '\u2192' has no meaning here; '->' goes between the columns of a dependency"),
+            (table + "flight: number \u2192 sonde", "2:16: '\u2192' has no meaning here; '->' goes between the columns of a dependency, or between two codes"),
             ("flight(number TEXT, sonde)", "1:15: a comma is missing before TEXT; a column has a name and no type"),
             (table + "0: flight(x, y)", "2:4: a rule begins with ans, not flight"),
             (table + "flight: number -> sonde\n" * 33, "34:1: an archive has 32 functional dependencies at most, and these make 33; "),

@@ -19,7 +19,7 @@ class Vectors(unittest.TestCase):
     def test_stored(self):
         tried, wrong, unread = vectors.judge(stored())
         self.assertEqual((wrong, unread), ([], []))
-        self.assertEqual(tried, [300] * 14)
+        self.assertEqual(tried, [300] * 15)
 
     def test_wrong_ones(self):
         """A vector whose last number is another one is told wrong, or no vector."""
@@ -35,7 +35,7 @@ class Vectors(unittest.TestCase):
                 self.assertEqual(len(wrong) + len(unread), 1, (vectors.CALLS[call], other))
 
     def test_no_vector(self):
-        for text in ("\n", "14 0 0\n", "0 3 1 2\n", "2 0 3 4\n", "2 0 3", "x\n"):
+        for text in ("\n", "15 0 0\n", "0 3 1 2\n", "2 0 3 4\n", "2 0 3", "x\n"):
             tried, wrong, unread = vectors.judge([text])
             self.assertEqual((sum(tried), wrong, len(unread)), (0, [], 1), text)
 

@@ -9,8 +9,8 @@ import sys
 
 from context import engine
 
-CALLS = "read write open add put drop reduce compare check determined test evaluate chase add_join".split()
-READ, WRITE, OPEN, ADD, PUT, DROP, REDUCE, COMPARE, CHECK, DETERMINED, TEST, EVALUATE, CHASE, ADD_JOIN = range(14)
+CALLS = "read write open add put drop reduce compare check determined test evaluate chase add_join add_code".split()
+READ, WRITE, OPEN, ADD, PUT, DROP, REDUCE, COMPARE, CHECK, DETERMINED, TEST, EVALUATE, CHASE, ADD_JOIN, ADD_CODE = range(15)
 
 # What a lent byte, word or number holds before a call.
 BYTE, WORD, SIZE = 0xA5, 0xA5A5A5A5, 0xA5A5A5
@@ -185,6 +185,20 @@ def is_mapping(file, p, q, mapping):
     return call("check", file, p, q, words_of(mapping), ctypes.byref(verdict)) == 0 and verdict.value == 1
 
 
+def as_read(file, part):
+    """A query part with each old code of the file as its current one."""
+    widths = parts_of(file)[0]
+    pairs = widths[2 + widths[0] :]
+    current = {b"\0" + pairs[at : at + 4]: b"\0" + pairs[at + 4 : at + 8] for at in range(0, len(pairs), 8)}
+    head, rows = rows_of(widths[1:], part)
+
+    def read(entries):
+        found = [entries[at : at + 5] for at in range(0, len(entries), 5)]
+        return b"".join(current.get(entry, entry) for entry in found)
+
+    return part[:2] + read(head) + b"".join(row[:1] + read(row[1:]) for row in rows) if rows else part
+
+
 def maps(widths, source, target, mapping):
     """Whether words are a mapping from one query part to another, which may have more rows than a place has room for."""
     (head, rows), (due, there) = rows_of(widths, source), rows_of(widths, target)
@@ -270,7 +284,7 @@ def compare(line, file):
         return False
     if said != 1:
         return told != 0 or mapping == NO_MAPPING
-    return maps(parts_of(file)[0][1:], part_at(file, q), chased(file, p), mapping)
+    return maps(parts_of(file)[0][1:], as_read(file, part_at(file, q)), chased(file, p), mapping)
 
 
 def check(line, file):
@@ -355,9 +369,9 @@ def agrees(line):
     if not file and number not in (READ, OPEN):
         # No file stands for the blank record. The program `examples` makes the calls on it.
         return number, line.numbers[-1] == BAD_RECORD
-    if number in (ADD, PUT, DROP, ADD_JOIN):
+    if number in (ADD, PUT, DROP, ADD_JOIN, ADD_CODE):
         with_bytes = [line.number, line.bytes]
-        given = {ADD: [line.number] * 3, PUT: with_bytes, DROP: [line.number], ADD_JOIN: with_bytes}
+        given = {ADD: [line.number] * 3, PUT: with_bytes, DROP: [line.number], ADD_JOIN: with_bytes, ADD_CODE: [line.number] * 2}
         return number, leaves_file(CALLS[number], line, file, *[take() for take in given[number]])
     if number == OPEN:
         return number, leaves_file("open", line, file)
