@@ -13,17 +13,19 @@ use lib.ListN.{length, get_or, length-map, get_or-eq_default}
 use borrow.Author.Tests.{eqb-true, eq-eqb, not-true}
 use Rattle.lists.specs.Numbers.{numbers_where}
 use Rattle.lists.proofs.Tests.{and_left, and_right, and_both, every_made, every-member}
+use Rattle.lists.proofs.Numbers.{where-from}
 use Rattle.lists.proofs.Positions.{get_or-in}
 use Rattle.theory.specs.Query.{Entry, constant, Row, column, member, FitsSchema, row_entries, ◌∈◌}
 use Rattle.theory.specs.Database.{Agree, JoinDependency}
 use Rattle.theory.specs.Chase.{first_found, agree}
 use Rattle.theory.proofs.Lists.{bool_cases, mem-cases, member-mem, member-not-mem}
 use Rattle.theory.proofs.Step.{agree-all, all-agree, first_passing-found, first_passing-nothing, first_found-found, first_found-nothing}
-use Rattle.theory.proofs.Entries.{column-row_entries}
+use Rattle.theory.proofs.Entries.{column-row_entries, row-row_entries}
 use Rattle.minimization.specs.Checking.{stands_in}
 use Rattle.minimization.proofs.Checking.{stands-in, in-stands}
 use Rattle.joins.specs.JoinChase.{before, picks, Choice, choices, chosen_entry, yields, fits_choice, consistent, missing, first_missing, first_unmet, next_row}
 use Rattle.joins.specs.JoinTheorems.{ChoiceOf}
+use Rattle.joins.specs.Join.{JoinFits}
 
 -- ---- which lists are tried
 
@@ -228,6 +230,33 @@ module _ (widths : List ℕ) (j : JoinDependency) (choice : Choice) where
   not-missing rows e together =
       bool_cases (stands_in (yields widths j choice) rows) (stands-in (yields widths j choice) rows)
       (λ p. absurd (true≢false (sym ((missing-exact rows).1 (together, λ at. true≢false (sym (in-stands (yields widths j choice) rows at) ∙ p))) ∙ e)))
+
+-- Where the rows go together and fit, and the sets have all columns, a choice has in each column an entry of the rows
+module _ (widths : List ℕ) (j : JoinDependency) (choice : Choice) (rows : List (Row Entry)) (fits : JoinFits widths j)
+    (fit : (r : Row Entry) → r ∈ rows → FitsSchema widths r) (of : ChoiceOf j.sets rows choice) (together : consistent widths j choice ≡ true) where
+  chosen-inside : (p : List ℕ × Row Entry) (c : ℕ) → p ∈ choice → c < get_or widths j.relation 0 → column (constant 0) p.1 c ∈ row_entries rows
+  chosen-inside p c at less =
+      let there = of.of-rows p at in
+      let long : length p.1.values ≡ get_or widths j.relation 0 =
+      (fit p.1 there).1 ∙ ap (λ k. get_or widths k 0) (consistent-true widths j choice together p at).0 in
+      row-row_entries rows p.1 (column (constant 0) p.1 c) there (get_or-in p.1.values c (constant 0) (omega (arith, less, long)))
+
+  chosen-there : (c : ℕ) → c < get_or widths j.relation 0 → chosen_entry choice c ∈ row_entries rows
+  chosen-there c less = go (fits.covers c less)
+    where
+      go : ((set : List ℕ) × set ∈ j.sets × c ∈ set) → chosen_entry choice c ∈ row_entries rows
+      go (set, held, at) =
+          let p = chosen-for set of held in
+          let found = chosen-entry-in choice c p.0 p.1 (subst (λ (l : List ℕ). c ∈ l) (sym p.2) at) in
+          Memᴰ.cast found.3 (chosen-inside found.0 c found.1 less)
+
+  -- so what it yields has entries of the rows
+  pub yields-there : (e : Entry) → e ∈ (yields widths j choice).values → e ∈ row_entries rows
+  unfolding yields
+  yields-there e at =
+      let from = Memᴰ.of_map (chosen_entry choice) (numbers_where (λ c. true) 0 (get_or widths j.relation 0)) at in
+      let inside = where-from (λ c. true) 0 (get_or widths j.relation 0) from.0 from.1 in
+      Memᴰ.cast (sym from.2) (chosen-there from.0 (omega (arith, inside.1)))
 
 -- ---- what the search tells
 

@@ -15,14 +15,15 @@ use Rattle.theory.specs.Containment.{frozen_rows, frozen_head}
 use Rattle.theory.proofs.Lists.{bool_cases}
 use Rattle.theory.proofs.Containment.{contained-over, contained-over-of-mapping, counterexample-over}
 use Rattle.minimization.specs.Search.{contained_on}
-use Rattle.minimization.proofs.Search.{both_below, contained_on-mapping}
+use Rattle.theory.proofs.Codes.{frozen-current}
+use Rattle.minimization.proofs.Search.{both_below, both_below_codes, contained_on-mapping}
 use Rattle.minimization.proofs.Theorems.{counterexample-refutes}
-use Rattle.joins.specs.Join.{ObeysBoth, LegalForBoth, JoinsFit}
+use Rattle.joins.specs.Join.{ObeysBoth, LegalForBoth, LegalForBothAsRead, JoinsFit}
 use Rattle.joins.specs.JoinChase.{Outcome, chased, overflow, JoinChases}
 use Rattle.joins.specs.JoinChase.{join_chase, contained_in, join_contained}
 use Rattle.joins.specs.JoinTheorems as joins
 use Rattle.joins.proofs.JoinChase.{joins-computed, joins-unique, joins-answers, joins-rows-fit, joins-constants}
-use Rattle.joins.proofs.JoinChase.{joins-complete, complete-legal}
+use Rattle.joins.proofs.JoinChase.{joins-complete, complete-legal, joins-current}
 
 -- What `join_chase` computes is the chase, and there is no other
 pub chase-computed : joins.JoinChaseComputes
@@ -60,6 +61,31 @@ pub chased-counterexample : joins.JoinChasedCounterexample
 chased-counterexample widths ds js limit p q result base fit c fits below_p below_q positive =
     counterexample-over (LegalForBoth widths ds js) base p q result
     (chased-stands widths ds js limit p result base fit c fits positive below_p) below_q
+
+-- ---- without old codes
+
+pub chased-stands-as-read : joins.JoinChasedStandsAsRead
+chased-stands-as-read ps widths ds js limit q result base fit c fits without positive below codes = record {
+  answers = λ D within. joins-answers fit c D within.legal.obeys;
+  frozen = λ nonempty. record {
+    legal = chased-legal widths ds js limit q result base fit c fits positive below;
+    current = frozen-current ps base result codes (joins-current fit ps c fits without);
+  };
+  below = joins-constants fit base positive c below;
+}
+
+pub contained-exact-as-read : joins.JoinContainedExactlyAsRead
+contained-exact-as-read ps widths ds js limit p q result fit c fits without =
+    let common = both_below_codes ps p q in
+    contained-over (LegalForBothAsRead ps widths ds js) common.0 p q result
+    (chased-stands-as-read ps widths ds js limit p result common.0 fit c fits without common.1 common.2 common.4) common.3
+
+pub chased-counterexample-as-read : joins.JoinChasedCounterexampleAsRead
+chased-counterexample-as-read ps widths ds js limit p q result base fit c fits without below_p below_q codes positive =
+    counterexample-over (LegalForBothAsRead ps widths ds js) base p q result
+    (chased-stands-as-read ps widths ds js limit p result base fit c fits without positive below_p codes) below_q
+
+-- ---- what is computed
 
 -- A chase that does not overflow ends in a query, and what `join_contained` tells is whether that is never or q maps to it
 computed-cases : {C : Type 0} (widths : List ℕ) (ds : List Dependency) (js : List JoinDependency) (limit : ℕ) (p q : Query) → JoinsFit widths js

@@ -1,14 +1,14 @@
 -- The chase with both kinds of dependencies (Maier, Mendelzon and Sagiv, "Testing implications of data dependencies", 1979; Abiteboul, Hull and Vianu,
 -- "Foundations of Databases", 8.4). The plan, by the numbers of the sections:
---   1. The row that is added has the entries of the rows, or constant 0, and there are rows.
+--   1. The row that is added has entries of the rows, or constant 0 where these do not fit the schema, and there are rows.
 --   2. A round that adds a row loses a variable, or has one row more without repeats: so the chase ends. It does in one way.
---   3. What holds of every chase, by its rounds; and by it, what the chase keeps: answers, the rows' fit, constants below a base, the head's length,
---      well-formed queries, the number of rows.
+--   3. What holds of every chase, by its rounds; and by it, what the chase keeps: answers, the rows' fit, what holds of each entry, so
+--      constants below a base, the head's length, well-formed queries, the number of rows.
 --   4. Where it ends no step of either kind is left, so that its result, read as a database, obeys both.
 -- Assumes nothing.
 use mathlib.Core.Path.{◌≡◌, refl, sym, ◌∙◌, ap, subst}
 use mathlib.Core.Logic.Iff
-use mathlib.Core.Logic.{◌≢◌, ◌↔◌, ◌⊎◌, inr, ⊎_elim}
+use mathlib.Core.Logic.{◌≢◌, ◌↔◌, ◌⊎◌, inl, inr, ⊎_elim}
 use mathlib.Core.List.Memᴰ
 use mathlib.Core.List.{List, [], ◌∷◌, ◌++◌}
 use mathlib.Core.List.{cons≢nil}
@@ -26,19 +26,22 @@ use Rattle.theory.specs.Answer.{value_of, itself, Carries, Answer, Mapping}
 use Rattle.theory.specs.Chase.{step, Chases, rests, clashes, replaces, chase}
 use Rattle.theory.specs.Containment.{freeze, frozen_rows, ConstantsBelow}
 use Rattle.theory.proofs.Lists.{bool_cases, mem-cases, nodup-length-le, mem-distinct, distinct-mem, distinct-nodup}
-use Rattle.theory.proofs.Entries.{row-row_entries, constant-same, constant-variable, variables_of-mem, mem-variables_of, column-row_entries}
+use Rattle.theory.proofs.Entries.{EachEntry, row-row_entries, constant-same, constant-variable, variables_of-mem, mem-variables_of, column-row_entries}
 use Rattle.theory.proofs.Members.{◌⊆◌, map-part, member-of-some, some-of-member, row-of-entry, row_entries-part}
 use Rattle.theory.proofs.Carry.{carries-fewer, mapping-inclusion, mapping-compose}
 use Rattle.theory.proofs.Chase.{chase-chases, chases-unique, chases-count, chases-answers, chases-mapping, chases-rests, freeze-injective, rests-obeys}
-use Rattle.theory.proofs.Chase.{chases-rows-fit, chases-wellformed, chases-head-length, chases-constants, chases-variables, chase-length-le}
+use Rattle.theory.proofs.Chase.{chases-rows-fit, chases-wellformed, chases-head-length, chases-entries, chases-variables, chase-length-le}
+use Rattle.theory.proofs.Chase.{constants-each, each-constants, zero-below}
 use Rattle.theory.proofs.Containment.{frozen-sound}
+use Rattle.theory.specs.Codes.{CodePair, QueryWithoutOld}
+use Rattle.theory.proofs.Codes.{NoOld, without-each, each-without}
 use Rattle.minimization.specs.Checking.{same_row}
 use Rattle.minimization.proofs.Checking.{same_row-eq, same_row-self}
 use Rattle.joins.specs.Join.{ObeysJoins, ObeysBoth, LegalForBoth, JoinsFit}
 use Rattle.joins.specs.JoinChase.{yields, next_row, keep_first, without_repeats, add_row, Outcome, chased, overflow, JoinChases, complete, adds, exceeds}
 use Rattle.joins.specs.JoinChase.{join_on, settle, join_chase_for, join_chase}
 use Rattle.joins.proofs.Repeats.{keep_first-twice, snoc_new, repeats-into, repeats-back, repeats-head, repeats-length}
-use Rattle.joins.proofs.Choices.{chosen-for, yields-fits, yields-entry, yields-relation, Added, next_row-found, next_row-nothing}
+use Rattle.joins.proofs.Choices.{chosen-for, yields-fits, yields-entry, yields-there, yields-relation, Added, next_row-found, next_row-nothing}
 use Rattle.joins.proofs.Obeying.{yields-in-join, KeepsApart, no-missing-obeys}
 
 -- ---- 1. the row that is added
@@ -55,20 +58,56 @@ module _ (widths : List ℕ) (js : List JoinDependency) (fit : JoinsFit widths j
   pub added-fits : {rows : List (Row Entry)} {r : Row Entry} → Added widths js rows r → FitsSchema widths r
   added-fits a = subst (FitsSchema widths) (sym a.row) (yields-fits widths a.dependency a.choice (fit a.dependency a.held).known)
 
-  -- It brings no entry but constant 0
-  pub added-entry : {rows : List (Row Entry)} {r : Row Entry} → Added widths js rows r → (e : Entry) → e ∈ row_entries (rows ++ r ∷ [])
-      → (e ≡ constant 0) ⊎ (e ∈ row_entries rows)
-  added-entry {rows} {r} a e at =
+  -- so the rows still fit with it
+  added-fit : (q : Query) {r : Row Entry} → Added widths js q.rows r → RowsFit widths q → RowsFit widths (add_row q r)
+  added-fit q a fits s at =
+      ⊎_elim
+      (fits s)
+      (λ new. mem-cases new (λ here. subst (FitsSchema widths) (sym here) (added-fits a)) (λ later. absurd (Memᴰ.not-nil later)))
+      (Memᴰ.append_cases q.rows at)
+
+  -- An entry of the rows with one more is an entry of that, or one that was there
+  added-from : (rows : List (Row Entry)) (r : Row Entry) (e : Entry) (D : Type 0) → e ∈ row_entries (rows ++ r ∷ [])
+      → (e ∈ r.values → D ⊎ (e ∈ row_entries rows)) → D ⊎ (e ∈ row_entries rows)
+  added-from rows r e D at new =
       let from = row-of-entry (rows ++ r ∷ []) at in
       ⊎_elim
       (λ old. inr (row-row_entries rows from.0 e old from.2))
-      (λ new.
-      let same : from.0 ≡ yields widths a.dependency a.choice =
-      mem-cases new (λ here. here ∙ a.row) (λ later. absurd (Memᴰ.not-nil later)) in
-      yields-entry widths a.dependency a.choice rows a.tried.of-rows e (subst (λ (s : Row Entry). e ∈ s.values) same from.2))
+      (λ last. new (subst (λ (s : Row Entry). e ∈ s.values) (mem-cases last (λ here. here) (λ later. absurd (Memᴰ.not-nil later))) from.2))
       (Memᴰ.append_cases rows from.1)
 
-  -- nor any variable
+  -- It brings no entry but constant 0,
+  pub added-entry : {rows : List (Row Entry)} {r : Row Entry} → Added widths js rows r → (e : Entry) → e ∈ row_entries (rows ++ r ∷ [])
+      → (e ≡ constant 0) ⊎ (e ∈ row_entries rows)
+  added-entry {rows} {r} a e at =
+      added-from rows r e (e ≡ constant 0) at
+      (λ there. yields-entry widths a.dependency a.choice rows a.tried.of-rows e (subst (λ (s : Row Entry). e ∈ s.values) a.row there))
+
+  -- and none at all where the rows fit the schema
+  pub added-there : {rows : List (Row Entry)} {r : Row Entry} → ((r : Row Entry) → r ∈ rows → FitsSchema widths r) → Added widths js rows r
+      → (e : Entry) → e ∈ row_entries (rows ++ r ∷ []) → e ∈ row_entries rows
+  added-there {rows} {r} fits a e at =
+      ⊎_elim absurd (λ there. there)
+      (added-from rows r e ⊥ at
+      (λ there.
+      inr
+      (yields-there widths a.dependency a.choice rows (fit a.dependency a.held) fits a.tried a.together e
+      (subst (λ (s : Row Entry). e ∈ s.values) a.row there))))
+
+  -- So what holds of each entry still does
+  pub added-entries : (P : Entry → Type 0) (q : Query) {r : Row Entry} → Added widths js q.rows r → P (constant 0) ⊎ RowsFit widths q
+      → EachEntry P q → EachEntry P (add_row q r)
+  added-entries P q {r} a default all x at =
+      ⊎_elim (λ there. all x (Memᴰ.append_left (row_entries q.rows) there)) (λ there. of-rows default there) (Memᴰ.append_cases q.head at)
+    where
+      old : x ∈ row_entries q.rows → P x
+      old there = all x (Memᴰ.append_right q.head there)
+
+      of-rows : P (constant 0) ⊎ RowsFit widths q → x ∈ row_entries (q.rows ++ r ∷ []) → P x
+      of-rows (inl holds) there = ⊎_elim (λ is. subst P (sym is) holds) old (added-entry a x there)
+      of-rows (inr fits) there = old (added-there fits a x there)
+
+  -- It brings no variable
   pub added-variables : (q : Query) {r : Row Entry} → Added widths js q.rows r → (v : ℕ) → v ∈ variables (add_row q r) → v ∈ variables q
   added-variables q {r} a v at =
       mem-variables_of v (q.head ++ row_entries q.rows)
@@ -77,6 +116,10 @@ module _ (widths : List ℕ) (js : List JoinDependency) (fit : JoinsFit widths j
       (λ there.
       ⊎_elim (λ zero. absurd (constant-variable 0 v (sym zero))) (λ old. Memᴰ.append_right q.head old) (added-entry a (variable v) there))
       (Memᴰ.append_cases q.head (variables_of-mem v (q.head ++ row_entries (q.rows ++ r ∷ [])) at)))
+
+-- Without repeats the rows still fit a schema
+repeats-fit : (widths : List ℕ) (js : List JoinDependency) (q : Query) → RowsFit widths q → RowsFit widths (without_repeats js q)
+repeats-fit widths js q fits s at = fits s (repeats-into js q s at)
 
 -- Without repeats there are rows exactly where there were
 repeats-some : (js : List JoinDependency) (q : Query) → q.rows ≢ [] → (without_repeats js q).rows ≢ []
@@ -89,15 +132,22 @@ some-repeats js q nonempty =
     let first = member-of-some (without_repeats js q).rows nonempty in
     some-of-member q.rows (repeats-into js q first.0 first.1)
 
--- and no other variables
+-- and no other entries
+repeats-entries : (js : List JoinDependency) (P : Entry → Type 0) (q : Query) → EachEntry P q → EachEntry P (without_repeats js q)
+repeats-entries js P q all x at =
+    all x
+    (⊎_elim
+    (λ there. Memᴰ.append_left (row_entries q.rows) (subst (λ l. x ∈ l) (repeats-head js q) there))
+    (λ there. Memᴰ.append_right q.head (row_entries-part (repeats-into js q) x there))
+    (Memᴰ.append_cases (without_repeats js q).head at))
+
+-- so no other variables
 repeats-variables : (js : List JoinDependency) (q : Query) (v : ℕ) → v ∈ variables (without_repeats js q) → v ∈ variables q
 repeats-variables js q v at =
     let p = without_repeats js q in
-    mem-variables_of v (q.head ++ row_entries q.rows)
-    (⊎_elim
-    (λ there. Memᴰ.append_left (row_entries q.rows) (subst (λ l. variable v ∈ l) (repeats-head js q) there))
-    (λ there. Memᴰ.append_right q.head (row_entries-part (repeats-into js q) (variable v) there))
-    (Memᴰ.append_cases p.head (variables_of-mem v (p.head ++ row_entries p.rows) at)))
+    repeats-entries js (λ x. (w : ℕ) → x ≡ variable w → w ∈ variables q) q
+    (λ x there w is. mem-variables_of w (q.head ++ row_entries q.rows) (Memᴰ.cast (sym is) there))
+    (variable v) (variables_of-mem v (p.head ++ row_entries p.rows) at) v refl
 
 -- A query all of whose variables another has has not more of them
 count-le : (p q : Query) → ((v : ℕ) → v ∈ variables p → v ∈ variables q) → variable_count p ≤ variable_count q
@@ -353,38 +403,39 @@ module _ {widths : List ℕ} {ds : List Dependency} {js : List JoinDependency} {
   pub joins-rows-fit : {q result : Query} → JoinChases widths ds js limit q (chased result) → RowsFit widths q → RowsFit widths result
   joins-rows-fit =
       joins-by-rounds (λ q result. RowsFit widths q → RowsFit widths result)
-      (λ q mid n c is fits s at. chases-rows-fit widths c fits s (repeats-into js mid s at))
-      (λ q mid n r result c a less rest fits. rest (added-rows c a (chases-rows-fit widths c fits)))
-    where
-      added-rows : {q mid : Query} {n : ℕ} {r : Row Entry} → Chases ds q mid n → Added widths js (without_repeats js mid).rows r
-          → RowsFit widths mid → RowsFit widths (add_row (without_repeats js mid) r)
-      added-rows {mid = mid} {r = r} c a fits s at =
-          ⊎_elim
-          (λ old. fits s (repeats-into js mid s old))
-          (λ new. mem-cases new (λ here. subst (FitsSchema widths) (sym here) (added-fits widths js fit a)) (λ later. absurd (Memᴰ.not-nil later)))
-          (Memᴰ.append_cases (without_repeats js mid).rows at)
+      (λ q mid n c is fits. repeats-fit widths js mid (chases-rows-fit widths c fits))
+      (λ q mid n r result c a less rest fits. rest (added-fit widths js fit (without_repeats js mid) a (repeats-fit widths js mid (chases-rows-fit widths c fits))))
 
-  -- Constants below a base
+  -- What holds of each entry of the query holds of each of the chased one. Constant 0 comes from nowhere if the rows fit the schema and the chased query is
+  -- not never
+  pub joins-entries : (P : Entry → Type 0) {q result : Query} → JoinChases widths ds js limit q (chased result)
+      → P (constant 0) ⊎ (RowsFit widths q × (result.rows ≢ [])) → EachEntry P q → EachEntry P result
+  joins-entries P =
+      joins-by-rounds (λ q result. P (constant 0) ⊎ (RowsFit widths q × (result.rows ≢ [])) → EachEntry P q → EachEntry P result)
+      (λ q mid n c is default all.
+      repeats-entries js P mid
+      (chases-entries P c (⊎_elim inl (λ both. inr ((widths, both.0), some-repeats js mid both.1)) default) all))
+      (λ q mid n r result c a less rest default all.
+      let settled = without_repeats js mid in
+      let there = some-repeats js mid (added-some widths js fit a) in
+      let settled-all = repeats-entries js P mid (chases-entries P c (⊎_elim inl (λ both. inr ((widths, both.0), there)) default) all) in
+      rest (⊎_elim inl (λ both. inr (added-fit widths js fit settled a (repeats-fit widths js mid (chases-rows-fit widths c both.0)), both.1)) default)
+      (added-entries widths js fit P settled a
+      (⊎_elim inl (λ both. inr (repeats-fit widths js mid (chases-rows-fit widths c both.0))) default) settled-all))
+
+  -- So with constants below a base
   pub joins-constants : (base : ℕ) → 0 < base → {q result : Query} → JoinChases widths ds js limit q (chased result)
       → ConstantsBelow base q → ConstantsBelow base result
-  joins-constants base positive =
-      joins-by-rounds (λ q result. ConstantsBelow base q → ConstantsBelow base result)
-      (λ q mid n c is below. kept mid (chases-constants base positive c below))
-      (λ q mid n r result c a less rest below. rest (grown mid r a (kept mid (chases-constants base positive c below))))
-    where
-      kept : (mid : Query) → ConstantsBelow base mid → ConstantsBelow base (without_repeats js mid)
-      kept mid below = record {
-        of-head = λ n at. below.of-head n (subst (λ l. constant n ∈ l) (repeats-head js mid) at);
-        of-rows = λ n at. below.of-rows n (row_entries-part (repeats-into js mid) (constant n) at);
-      }
+  joins-constants base positive {q} {result} chase below =
+      each-constants base result
+      (joins-entries (λ x. (n : ℕ) → x ≡ constant n → n < base) chase (inl (zero-below base positive)) (constants-each base q below))
 
-      grown : (mid : Query) (r : Row Entry) → Added widths js (without_repeats js mid).rows r → ConstantsBelow base (without_repeats js mid)
-          → ConstantsBelow base (add_row (without_repeats js mid) r)
-      grown mid r a below = record {
-        of-head = below.of-head;
-        of-rows = λ n at.
-            ⊎_elim (λ zero. let is : n ≡ 0 = constant-same zero in omega arith) (below.of-rows n) (added-entry widths js fit a (constant n) at);
-      }
+  -- and with old codes
+  pub joins-current : (ps : List CodePair) {q result : Query} → JoinChases widths ds js limit q (chased result) → RowsFit widths q
+      → QueryWithoutOld ps q → QueryWithoutOld ps result
+  joins-current ps {q} {result} chase fits without =
+      each-without ps result
+      (λ some. joins-entries (NoOld ps) chase (inr (fits, some)) (without-each ps q without (joins-mapping chase some).1.carries.not-never))
 
   -- It makes no variable
   pub joins-variables : {q result : Query} → JoinChases widths ds js limit q (chased result) → (v : ℕ) → v ∈ variables result → v ∈ variables q
@@ -404,11 +455,7 @@ module _ {widths : List ℕ} {ds : List Dependency} {js : List JoinDependency} {
         (λ q mid n r result c a less rest well.
         let before = chases-wellformed widths c well in
         rest (record {
-          rows_fit = λ s at.
-              ⊎_elim
-              (λ old. before.rows_fit s (repeats-into js mid s old))
-              (λ new. mem-cases new (λ here. subst (FitsSchema widths) (sym here) (added-fits widths js fit a)) (λ later. absurd (Memᴰ.not-nil later)))
-              (Memᴰ.append_cases (without_repeats js mid).rows at);
+          rows_fit = added-fit widths js fit (without_repeats js mid) a (repeats-fit widths js mid before.rows_fit);
           head-safe = λ v at. more (without_repeats js mid).rows (add_row (without_repeats js mid) r).rows (λ s there. Memᴰ.append_left (r ∷ []) there) v
               (kept mid before.head-safe v at);
         }))

@@ -4,7 +4,9 @@ use mathlib.Core.Path.{refl, sym, subst}
 use mathlib.Core.List.Memᴰ
 use mathlib.Core.List.{[]}
 use Rattle.theory.specs.Chase.{chase, first_found}
+use Rattle.theory.specs.Codes.{WithoutOld}
 use Rattle.theory.proofs.Chase.{chase-chases}
+use Rattle.theory.proofs.Codes.{database-read, current-database}
 use Rattle.minimization.specs.Checking.{same_row}
 use Rattle.minimization.proofs.Checking.{same_row-eq, same_row-self}
 use Rattle.joins.specs.JoinChase.{without_repeats, first_unmet, next_row, chased, JoinChases, complete}
@@ -15,7 +17,8 @@ use Rattle.joins.proofs.Repeats.{snoc-there, snoc_new}
 use Rattle.joins.proofs.Choices.{choices-of, choice-tried, consistent-true, true-consistent, missing-exact}
 use Rattle.joins.proofs.Obeying.{obeys-join-exact}
 use Rattle.joins.proofs.JoinChase.{joins-computed, joins-unique, joins-answers, joins-mapping, joins-wellformed}
-use Rattle.joins.proofs.JoinChase.{joins-head-length, joins-length}
+use Rattle.joins.proofs.JoinChase.{joins-head-length, joins-length, joins-current}
+use Rattle.joins.proofs.Containment.{chased-stands-as-read, contained-exact-as-read, chased-counterexample-as-read}
 use Rattle.joins.proofs.Containment.{chase-computed, chased-legal, chased-stands, contained-exact, contained-obeying, chased-counterexample}
 use Rattle.joins.proofs.Containment.{contained-computed, not-contained-computed}
 use Rattle.joins.proofs.Fitting.{join_fits-exact}
@@ -81,6 +84,26 @@ join-contained-computes = contained-computed
 
 pub join-not-contained-computes : joins.JoinNotContainedComputes
 join-not-contained-computes = not-contained-computed
+
+-- ---- where constants were renumbered
+
+pub join-chase-current : joins.JoinChaseCurrent
+join-chase-current ps widths ds js limit q result fit = joins-current fit ps
+
+pub legal-for-both-as-read-exactly : joins.LegalForBothAsReadExactly
+legal-for-both-as-read-exactly ps widths ds js D stay = (
+  λ as_read. (as_read.legal, current-database ps D as_read.current),
+  λ both. record { legal = both.0; current = subst (WithoutOld ps) both.1 (database-read ps D stay) },
+)
+
+pub join-chased-stands-as-read : joins.JoinChasedStandsAsRead
+join-chased-stands-as-read = chased-stands-as-read
+
+pub join-contained-exactly-as-read : joins.JoinContainedExactlyAsRead
+join-contained-exactly-as-read = contained-exact-as-read
+
+pub join-chased-counterexample-as-read : joins.JoinChasedCounterexampleAsRead
+join-chased-counterexample-as-read = chased-counterexample-as-read
 
 -- ---- the order of search
 

@@ -7,9 +7,11 @@ use Rattle.theory.specs.Database.{Database, Dependency, Agree, Obeys, Sound, Joi
 use Rattle.theory.specs.Answer.{Answer, Mapping}
 use Rattle.theory.specs.Chase.{first_passing, first_found, agree, chase}
 use Rattle.theory.specs.Containment.{Contained, Counterexample, frozen_rows, frozen_head, ConstantsBelow, StandsFor}
+use Rattle.theory.specs.Codes.{CodePair, read_database, QueryWithoutOld, CurrentStay}
+use Rattle.theory.specs.CodeTheorems.{OldCodesBelow}
 use Rattle.theory.specs.OrderTheorems.{FirstFound}
 use Rattle.minimization.specs.Checking.{same_row}
-use Rattle.joins.specs.Join.{ObeysJoin, ObeysBoth, LegalForBoth, JoinFits, JoinsFit, join_fits}
+use Rattle.joins.specs.Join.{ObeysJoin, ObeysBoth, LegalForBoth, LegalForBothAsRead, JoinFits, JoinsFit, join_fits}
 use Rattle.joins.specs.JoinChase.{Choice, picks, candidates, choices, yields, consistent, missing, first_missing, next_row, keep_first}
 use Rattle.joins.specs.JoinChase.{Outcome, chased, overflow, JoinChases, join_chase, join_contained}
 
@@ -126,6 +128,45 @@ JoinNotContainedComputes =
     (widths : List ℕ) (ds : List Dependency) (js : List JoinDependency) (limit : ℕ) (p q : Query) → JoinsFit widths js → RowsFit widths p
     → (join_contained widths ds js limit p q ≡ some false)
     ↔ ((join_chase widths ds js limit p ≢ overflow) × (D : Database) × (t : List ℕ) × Counterexample (LegalForBoth widths ds js) p q D t)
+
+-- ---- where constants were renumbered
+
+-- The chase brings no old code
+abbrev pub JoinChaseCurrent : Type 0
+JoinChaseCurrent =
+    (ps : List CodePair) (widths : List ℕ) (ds : List Dependency) (js : List JoinDependency) (limit : ℕ) (q result : Query) → JoinsFit widths js
+    → JoinChases widths ds js limit q (chased result) → RowsFit widths q → QueryWithoutOld ps q → QueryWithoutOld ps result
+
+-- The databases that statements speak of are those that are legal for both kinds and are read as themselves
+abbrev pub LegalForBothAsReadExactly : Type 0
+LegalForBothAsReadExactly =
+    (ps : List CodePair) (widths : List ℕ) (ds : List Dependency) (js : List JoinDependency) (D : Database) → CurrentStay ps
+    → LegalForBothAsRead ps widths ds js D ↔ (LegalForBoth widths ds js D × (read_database ps D ≡ D))
+
+-- Over these databases the chased query stands for a query without old codes, with a base above these too
+abbrev pub JoinChasedStandsAsRead : Type 0
+JoinChasedStandsAsRead =
+    (ps : List CodePair) (widths : List ℕ) (ds : List Dependency) (js : List JoinDependency) (limit : ℕ) (q result : Query) (base : ℕ) → JoinsFit widths js
+    → JoinChases widths ds js limit q (chased result)
+    → RowsFit widths q → QueryWithoutOld ps q → 0 < base → ConstantsBelow base q → OldCodesBelow base ps
+    → StandsFor (LegalForBothAsRead ps widths ds js) base q result
+
+-- So p, if it has no old code, is contained in q over these databases exactly when it chases to never or q can be mapped to the chased p. Of the constants of q
+-- nothing is asked
+abbrev pub JoinContainedExactlyAsRead : Type 0
+JoinContainedExactlyAsRead =
+    (ps : List CodePair) (widths : List ℕ) (ds : List Dependency) (js : List JoinDependency) (limit : ℕ) (p q result : Query) → JoinsFit widths js
+    → JoinChases widths ds js limit p (chased result) → RowsFit widths p → QueryWithoutOld ps p
+    → ((result.rows ≡ []) ⊎ Mapping q result) ↔ Contained (LegalForBothAsRead ps widths ds js) p q
+
+-- Otherwise the chased p, read as a database, shows that it is not, and has no old code
+abbrev pub JoinChasedCounterexampleAsRead : Type 0
+JoinChasedCounterexampleAsRead =
+    (ps : List CodePair) (widths : List ℕ) (ds : List Dependency) (js : List JoinDependency) (limit : ℕ) (p q result : Query) (base : ℕ) → JoinsFit widths js
+    → JoinChases widths ds js limit p (chased result)
+    → RowsFit widths p → QueryWithoutOld ps p → ConstantsBelow base p → ConstantsBelow base q → OldCodesBelow base ps → 0 < base
+    → result.rows ≢ [] → (Mapping q result → ⊥)
+    → Counterexample (LegalForBothAsRead ps widths ds js) p q (frozen_rows base result) (frozen_head base result)
 
 -- ---- the order of search
 

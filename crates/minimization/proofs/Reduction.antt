@@ -4,11 +4,9 @@
 --   1. Cores. A core mapped into some of its own rows needs as many of them as it has: otherwise, by the pigeonhole principle, one of its rows could go.
 --   2. Answers. A result has the answers of the chased query, since each maps to the other; so those of the source. A mapping leads from the source to it.
 --      Two results map to each other, so by 1 they have equally many rows.
--- 3. Minimality. Freeze the result T. Its head is an answer of T there, so of a rival R, by some α. The α-images of R's rows are a part of the frozen
--- T, so they obey the
--- dependencies; the head is an answer of R on them alone, so of T, by some β. Thawed, β maps T into as many of its rows as R has. By 1, R has no
--- fewer rows than T.
---      R is not chased, and its constants may be any.
+--   3. Minimality, over a class of databases that obey, with all parts of the frozen result T. Its head is an answer of T there, so of a rival R, by some α. The
+--      α-images of R's rows are a part of the frozen T, so of the class; the head is an answer of R on them alone, so of T, by some β. Thawed, β maps T into as
+--      many of its rows as R has. By 1, R has no fewer rows than T. R is not chased, and its constants may be any.
 -- 4. What a result keeps. It has at most as many rows as the source, and its variables and constants. A mapping that fixes the head keeps each head
 -- variable in a row.
 --   5. Losing rows one at a time leads to every result, up to the order of rows.
@@ -28,15 +26,17 @@ use Rattle.theory.specs.Database.{Database, Dependency, Obeys, Legal}
 use Rattle.theory.specs.Answer.{value_of, itself, Carries, Answer, Mapping}
 use Rattle.theory.specs.Chase.{chase}
 use Rattle.theory.specs.Containment.{freeze, frozen_rows, frozen_head, ConstantsBelow}
-use Rattle.minimization.specs.Reduction.{drop_row, Core, Reduction, Shrinks, stays, loses, Reordered, Minimal, Equivalent}
+use Rattle.theory.specs.Codes.{CodePair, read_query, QueryWithoutOld, LegalAsRead}
+use Rattle.minimization.specs.Reduction.{drop_row, Core, Reduction, Shrinks, stays, loses, Reordered, Minimal, MinimalAsRead, Equivalent, Rival}
 use Rattle.theory.proofs.Lists.{Nodup, without-length, nodup-length-le, list_cases, map-fixes}
 use Rattle.theory.proofs.Entries.{constant-variable, variables_of-mem, mem-variables_of, row-row_entries}
 use Rattle.theory.proofs.Members.{◌⊆◌, map-part, some-of-member, member-of-some, row-of-entry, row_entries-part}
 use Rattle.minimization.proofs.Without.{without-part, without-cases, pigeonhole, nodup-of, nodup-fills}
 use Rattle.theory.proofs.Carry.{carries-fewer, mapping-of, mapping-compose, mapping-self, mapping-part, mapping-inclusion, mapping-target}
 use Rattle.theory.proofs.Chase.{chase-answers, chase-mapping, chase-obeys, chase-rows-fit, chase-wellformed, chase-head-length}
-use Rattle.theory.proofs.Chase.{chase-length-le}
+use Rattle.theory.proofs.Chase.{chase-chases, chase-length-le}
 use Rattle.theory.proofs.Containment.{answer-along, frozen-answer, frozen-sound, thaw, thaw-rows, thaw-head, thaw-carries}
+use Rattle.theory.proofs.Codes.{current-part, chases-current, codes-base, codes-below-more, frozen-current, read-length}
 
 -- ---- 1. Cores
 
@@ -110,9 +110,9 @@ module _ (ds : List Dependency) (S T : Query) (result : Reduction ds S T) where
       from : Answer D T t → Answer D (chase ds S).query t
       from answer = answer-along D (chase ds S).query T (result.receives (reduction-some-chased answer.1.not-never)) t answer
 
-  -- so the two have the same answers on every legal database
-  pub reduction-equivalent : (widths : List ℕ) → Equivalent widths ds S T
-  reduction-equivalent widths D legal t = Iff.trunc (reduction-answers D legal.obeys t)
+  -- so the two have the same answers over any class of such databases
+  pub reduction-equivalent : (C : Database → Type 0) → ((D : Database) → C D → Obeys ds D) → Equivalent C S T
+  reduction-equivalent C obeying D within t = Iff.trunc (reduction-answers D (obeying D within) t)
 
   -- Unless the result is never, there is a mapping from the source query to it
   pub reduction-mapping : T.rows ≢ [] → Mapping S T
@@ -134,6 +134,10 @@ module _ (ds : List Dependency) (S T : Query) (result : Reduction ds S T) where
   -- A result has the head length of its source
   pub reduction-head-length : length T.head ≡ length S.head
   reduction-head-length = ap length result.head ∙ chase-head-length ds S
+
+  -- It is a rival of it
+  pub reduction-rival : (C : Database → Type 0) → ((D : Database) → C D → Obeys ds D) → Rival C S T
+  reduction-rival C obeying = record { width = reduction-head-length; same = reduction-equivalent C obeying }
 
 -- Two results of one query have equally many rows
 pub reduction-same-size : (ds : List Dependency) (S T U : Query) → Reduction ds S T → Reduction ds S U → length T.rows ≡ length U.rows
@@ -180,6 +184,13 @@ some-base q =
     } in
     (above entries, above-positive entries, below)
 
+-- What is below a base is below a higher one
+pub below_more : (base higher : ℕ) (q : Query) → base ≤ higher → ConstantsBelow base q → ConstantsBelow higher q
+below_more base higher q more below = record {
+  of-head = λ n at. let less = below.of-head n at in omega arith;
+  of-rows = λ n at. let less = below.of-rows n at in omega arith;
+}
+
 -- A part of a legal database is legal
 legal-part : (widths : List ℕ) (ds : List Dependency) (D E : Database) → E ⊆ D → Legal widths ds D → Legal widths ds E
 legal-part widths ds D E part legal = record {
@@ -223,41 +234,70 @@ module _ (T R : Query) (base : ℕ) (rival : Answer (frozen_rows base T) R (froz
       let small : length T.rows ≤ length P.rows = core-least T P core refl part onto in
       omega (arith, small, length-map (images rival.0 R) (map_row (thaw base)), length-map R.rows (map_row (value_of itself rival.0)))
 
--- If on every legal database R has exactly the answers of T, and T is a core of which the frozen rows are legal, then R has at least as many rows as T.
--- The conclusion is a proposition, so α and β may be taken from the truncations
-core-minimal : (widths : List ℕ) (ds : List Dependency) (T R : Query) (base : ℕ) → ConstantsBelow base T → Core T
-    → Legal widths ds (frozen_rows base T) → Equivalent widths ds T R → T.rows ≢ [] → length T.rows ≤ length R.rows
-core-minimal widths ds T R base below core legal same some =
-    ∥∥₁_elim ((same (frozen_rows base T) legal (frozen_head base T)).0 ∣ frozen-answer base T some ∣₁) le_prop (λ rival.
-    let part : images rival.0 R ⊆ frozen_rows base T = images-part T R base rival in
-    ∥∥₁_elim ((same (images rival.0 R) (legal-part widths ds (frozen_rows base T) (images rival.0 R) part legal) (frozen_head base T)).1 ∣ images-answer T R base rival ∣₁)
+-- If on every database of a class R has exactly the answers of T, and T is a core of which all parts of the frozen rows are of the class, then R has at least as
+-- many rows as T. The conclusion is a proposition, so α and β may be taken from the truncations
+core-minimal : (C : Database → Type 0) (T R : Query) (base : ℕ) → ConstantsBelow base T → Core T
+    → ((D : Database) → D ⊆ frozen_rows base T → C D) → Equivalent C T R → T.rows ≢ [] → length T.rows ≤ length R.rows
+core-minimal C T R base below core parts same some =
+    ∥∥₁_elim ((same (frozen_rows base T) (parts (frozen_rows base T) (λ r at. at)) (frozen_head base T)).0 ∣ frozen-answer base T some ∣₁) le_prop (λ rival.
+    ∥∥₁_elim
+    ((same (images rival.0 R) (parts (images rival.0 R) (images-part T R base rival)) (frozen_head base T)).1 ∣ images-answer T R base rival ∣₁)
     le_prop (images-length T R base rival below core))
 
--- Every query with the source's answers on all legal databases has at least as many rows as a result, whatever its variables and constants
-pub reduction-minimal : (widths : List ℕ) (ds : List Dependency) (S T : Query) → ((r : Row Entry) → r ∈ S.rows → FitsSchema widths r)
-    → Reduction ds S T → Minimal widths ds S T
-reduction-minimal widths ds S T fit result R rival =
-    list_cases T.rows (λ none. omega (arith, ap length none))
-    (core-minimal widths ds T R base (below-part base (chase ds S).query T result.head result.rows below) result.core
-    (legal-part widths ds (frozen_rows base (chase ds S).query) (frozen_rows base T) frozen-part legal) same)
+-- So with a result of reduction, over a class of databases that obey: every query with the source's answers on all of them has at least as many rows, whatever
+-- its variables and constants
+pub reduction-minimal-over : (C : Database → Type 0) (ds : List Dependency) (S T : Query) (base : ℕ) → ((D : Database) → C D → Obeys ds D)
+    → ConstantsBelow base T → ((D : Database) → D ⊆ frozen_rows base T → C D) → Reduction ds S T → Minimal C S T
+reduction-minimal-over C ds S T base obeying below parts result R rival =
+    list_cases T.rows (λ none. omega (arith, ap length none)) (core-minimal C T R base below result.core parts same)
   where
-    base : ℕ
-    base = (some-base (chase ds S).query).0
+    same : Equivalent C T R
+    same D within t = Iff.trans (Iff.symm (reduction-equivalent ds S T result C obeying D within t)) (rival.same D within t)
 
-    below : ConstantsBelow base (chase ds S).query
-    below = (some-base (chase ds S).query).2
+module _ (widths : List ℕ) (ds : List Dependency) (S T : Query) (fit : (r : Row Entry) → r ∈ S.rows → FitsSchema widths r) (result : Reduction ds S T) where
+  -- The constants of a result are the chased query's
+  below-result : (base : ℕ) → ConstantsBelow base (chase ds S).query → ConstantsBelow base T
+  below-result base = below-part base (chase ds S).query T result.head result.rows
 
-    legal : Legal widths ds (frozen_rows base (chase ds S).query)
-    legal = record {
-      sound = frozen-sound widths base (chase ds S).query (chase-rows-fit widths ds S fit);
-      obeys = chase-obeys ds S base (some-base (chase ds S).query).1 below;
-    }
+  -- All parts of the frozen rows of a result are legal
+  result-legal : (base : ℕ) → 0 < base → ConstantsBelow base (chase ds S).query → (D : Database) → D ⊆ frozen_rows base T → Legal widths ds D
+  result-legal base positive below D part =
+      legal-part widths ds (frozen_rows base (chase ds S).query) D
+      (λ r at. map-part (map_row (freeze base)) result.rows r (part r at))
+      (record {
+        sound = frozen-sound widths base (chase ds S).query (chase-rows-fit widths ds S fit);
+        obeys = chase-obeys ds S base positive below;
+      })
 
-    frozen-part : frozen_rows base T ⊆ frozen_rows base (chase ds S).query
-    frozen-part = map-part (map_row (freeze base)) result.rows
+  -- so a result is minimal over the legal databases
+  pub reduction-minimal : Minimal (Legal widths ds) S T
+  reduction-minimal =
+      let base = some-base (chase ds S).query in
+      reduction-minimal-over (Legal widths ds) ds S T base.0 (λ D legal. legal.obeys) (below-result base.0 base.2) (result-legal base.0 base.1 base.2) result
 
-    same : Equivalent widths ds T R
-    same D legal t = Iff.trans (Iff.symm (reduction-equivalent ds S T result widths D legal t)) (rival.same D legal t)
+  -- A result of a query without old codes has none
+  pub result-current : (ps : List CodePair) → QueryWithoutOld ps S → QueryWithoutOld ps T
+  result-current ps without =
+      current-part ps (chase ds S).query T result.head result.rows (chases-current ps widths fit (chase-chases ds S) without)
+
+  -- and is minimal over the legal databases without old codes, with a base above these too
+  pub reduction-minimal-current : (ps : List CodePair) → QueryWithoutOld ps S → Minimal (LegalAsRead ps widths ds) S T
+  reduction-minimal-current ps without =
+      let first = some-base (chase ds S).query in
+      let second = codes-base ps in
+      let base = first.0 + second.0 in
+      let below = below_more first.0 base (chase ds S).query (omega arith) first.2 in
+      let frozen = frozen-current ps base T (codes-below-more ps second.0 base (omega arith) second.1) (result-current ps without) in
+      reduction-minimal-over (LegalAsRead ps widths ds) ds S T base (λ D within. within.legal.obeys) (below-result base below)
+      (λ D part. record {
+        legal = result-legal base (omega (arith, first.1)) below D part;
+        current = λ r at. frozen r (part r at);
+      })
+      result
+
+-- A query has as many rows as it is read with, so what is minimal is so as it is read
+pub minimal-as-read : (ps : List CodePair) (C : Database → Type 0) (S T : Query) → Minimal C S T → MinimalAsRead ps C S T
+minimal-as-read ps C S T minimal R rival = omega (arith, minimal (read_query ps R) rival, read-length ps R)
 
 -- ---- 4. What a result keeps
 

@@ -10,7 +10,7 @@ use mathlib.Core.Bool.{Bool, true, false, cond, true≢false}
 use mathlib.Core.List.Memᴰ
 use mathlib.Core.List.{List, [], ◌∷◌, map, cons≢nil}
 use mathlib.Core.Option.{Option, none, some, none-ne-some, some-ne-none, some-injective, bind, bind-eq-some_iff, or_else, get_or}
-use Prim.Native.Nat.{ℕ, ◌+◌, ◌≤◌, ◌<◌}
+use Prim.Native.Nat.{ℕ, ◌+◌, ◌<◌}
 use native.Mathlib.Omega.{arith}
 use lib.Dec.{eqb}
 use borrow.Author.Tests.{eqb-true, eqb-false, eq-eqb}
@@ -24,7 +24,10 @@ use Rattle.minimization.specs.Search.{is_some, mappable, contained_on, contained
 use Rattle.theory.proofs.Entries.{same_entry-eq, same_entry-ne}
 use Rattle.theory.proofs.Carry.{mapping-of}
 use Rattle.theory.proofs.Containment.{contained-iff, counterexample}
-use Rattle.minimization.proofs.Reduction.{some-base}
+use Rattle.theory.specs.Codes.{CodePair}
+use Rattle.theory.specs.CodeTheorems.{OldCodesBelow}
+use Rattle.theory.proofs.Codes.{codes-base, codes-below-more}
+use Rattle.minimization.proofs.Reduction.{some-base, below_more}
 
 -- Rows are equal when their relations and values are
 row_same : (r s : Row Entry) → r.relation ≡ s.relation → r.values ≡ s.values → r ≡ s
@@ -298,19 +301,25 @@ pub contained-mapping : (ds : List Dependency) (p q : Query) → (contained ds p
 unfolding contained
 contained-mapping ds p q = contained_on-mapping (chase ds p).query q (chase ds p).query.rows
 
--- What is below a base is below a higher one
-below_more : (base higher : ℕ) (q : Query) → base ≤ higher → ConstantsBelow base q → ConstantsBelow higher q
-below_more base higher q more below = record {
-  of-head = λ n at. let less = below.of-head n at in omega arith;
-  of-rows = λ n at. let less = below.of-rows n at in omega arith;
-}
-
 -- Some base is above 0 and above the constants of both queries
 pub both_below : (p q : Query) → (base : ℕ) × 0 < base × ConstantsBelow base p × ConstantsBelow base q
 both_below p q =
     let P = some-base p in
     let Q = some-base q in
     (P.0 + Q.0, omega (arith, P.1), below_more P.0 (P.0 + Q.0) p (omega arith) P.2, below_more Q.0 (P.0 + Q.0) q (omega arith) Q.2)
+
+-- and above old codes too
+pub both_below_codes : (ps : List CodePair) (p q : Query) → (base : ℕ) × 0 < base × ConstantsBelow base p × ConstantsBelow base q × OldCodesBelow base ps
+both_below_codes ps p q =
+    let first = both_below p q in
+    let second = codes-base ps in
+    let base = first.0 + second.0 in (
+      base,
+      omega (arith, first.1),
+      below_more first.0 base p (omega arith) first.2,
+      below_more first.0 base q (omega arith) first.3,
+      codes-below-more ps second.0 base (omega arith) second.1,
+    )
 
 module _ (widths : List ℕ) (ds : List Dependency) (p q : Query) (fit : (r : Row Entry) → r ∈ p.rows → FitsSchema widths r) where
   -- `contained` passes exactly where p is contained in q

@@ -1,7 +1,8 @@
 -- A proof of each statement of `ContainmentTheorems`, `ReductionTheorems` and of the table of `Examples`. Most are proved in the files before; here they have
 -- the form in which they are stated.
 -- Assumes nothing.
-use mathlib.Core.Path.{sym}
+use mathlib.Core.Path.{sym, subst}
+use native.Mathlib.Omega.{arith}
 use mathlib.Core.Logic.{inl, inr}
 use Rattle.minimization.specs.Search.{contained}
 use Rattle.minimization.specs.Examples.{ExamplesMean}
@@ -11,8 +12,12 @@ use Rattle.theory.proofs.Lists.{bool_cases}
 use Rattle.theory.proofs.Chase.{freeze-injective}
 use Rattle.theory.specs.Database.{Legal}
 use Rattle.theory.proofs.Containment.{contained-iff, counterexample, contained-over, counterexample-over}
-use Rattle.minimization.proofs.Reduction.{core-repeats, reduction-answers, reduction-equivalent, reduction-head-length, reduction-minimal}
-use Rattle.minimization.proofs.Reduction.{reduction-same-size}
+use Rattle.minimization.proofs.Reduction.{core-repeats, reduction-answers, reduction-rival, reduction-minimal, reduction-minimal-over}
+use Rattle.minimization.proofs.Reduction.{reduction-same-size, result-current, reduction-minimal-current, minimal-as-read}
+use Rattle.minimization.specs.Reduction.{Rival}
+use Rattle.minimization.specs.Kept.{reduced}
+use Rattle.theory.specs.Codes.{read_query, LegalAsRead}
+use Rattle.theory.proofs.Codes.{current-query, query-read, read-length}
 use Rattle.minimization.proofs.Reduction.{reduction-mapping, reduction-never, reduction-wellformed, reduction-length, reduction-reordered}
 use Rattle.minimization.proofs.Reduction.{shrinks-reduction, reduction-shrinks}
 use Rattle.minimization.proofs.Search.{mappable-exact, contained-exact, contained-false, both_below}
@@ -84,7 +89,10 @@ pub result-minimal : reduction.ResultMinimal
 result-minimal = reduction-minimal
 
 pub result-is-rival : reduction.ResultIsRival
-result-is-rival widths ds S T result = record { width = reduction-head-length ds S T result; same = reduction-equivalent ds S T result widths }
+result-is-rival widths ds S T result = reduction-rival ds S T result (Legal widths ds) (λ D legal. legal.obeys)
+
+pub result-minimal-over : reduction.ResultMinimalOver
+result-minimal-over = reduction-minimal-over
 
 pub results-same-size : reduction.ResultsSameSize
 results-same-size = reduction-same-size
@@ -100,6 +108,29 @@ result-without-repeats ds S T result = core-repeats T result.core
 
 pub result-well-formed : reduction.ResultWellFormed
 result-well-formed widths ds S T result = (λ well. reduction-wellformed widths ds S T well result, reduction-length ds S T result)
+
+-- ---- where constants were renumbered
+
+pub a-result-is-current : reduction.ResultCurrent
+a-result-is-current ps widths ds S T fit without result = result-current widths ds S T fit result ps without
+
+pub reduced-is-current : reduction.ReducedCurrent
+reduced-is-current ps widths ds S fit without = result-current widths ds S (reduced ds S) fit (reduced-reduction ds S) ps without
+
+pub reduced-minimal-as-read : reduction.ReducedMinimalAsRead
+reduced-minimal-as-read ps widths ds S T fit without result =
+    minimal-as-read ps (LegalAsRead ps widths ds) S T (reduction-minimal-current widths ds S T fit result ps without)
+
+pub reduced-rival-as-read : reduction.ReducedRivalAsRead
+reduced-rival-as-read ps widths ds S T fit without result =
+    subst (Rival (LegalAsRead ps widths ds) S) (sym (current-query ps T (result-current widths ds S T fit result ps without)))
+    (reduction-rival ds S T result (LegalAsRead ps widths ds) (λ D within. within.legal.obeys))
+
+pub minimal-as-read-exactly : reduction.MinimalAsReadExactly
+minimal-as-read-exactly ps C S T stay = (
+  λ minimal R without rival. minimal R (subst (Rival C S) (sym (current-query ps R without)) rival),
+  λ all R rival. omega (arith, all (read_query ps R) (query-read ps R stay) rival, read-length ps R),
+)
 
 -- ---- the examples
 

@@ -38,7 +38,7 @@ schema = 2 ∷ 3 ∷ 2 ∷ []
 pub record Reduces (ds : List Dependency) (q : Query) (head : List Entry) (rows count : ℕ) : Type 0 where
   pub result : (T : Query) × Reduction ds q T
   pub each : (T : Query) → Reduction ds q T → (T.head ≡ head) × (length T.rows ≡ rows)
-  pub least : (U : Query) → Rival schema ds q U → rows ≤ length U.rows
+  pub least : (U : Query) → Rival (Legal schema ds) q U → rows ≤ length U.rows
   pub counted : (chased : Query) × Chases ds q chased count
 
 -- The left set determines so many columns: those that it determines, in ascending order, are so many

@@ -1,7 +1,8 @@
 -- What a result of reduction is, whichever rows stay in which order, and what demand 3 asks of it. The one that is given is `reduced` (`Kept`).
 use Rattle.std.specs.Prelude.{◌≡◌, ◌≢◌, ◌↔◌, List, [], ℕ, ◌≤◌, length}
 use Rattle.theory.specs.Query.{Entry, Row, Query, ◌∈◌, without}
-use Rattle.theory.specs.Database.{Database, Dependency, Legal}
+use Rattle.theory.specs.Database.{Database, Dependency}
+use Rattle.theory.specs.Codes.{CodePair, read_query}
 use Rattle.theory.specs.Answer.{Answer, Mapping}
 use Rattle.theory.specs.Chase.{chase}
 
@@ -34,17 +35,21 @@ pub record Reordered (T U : Query) : Type 0 where
   pub back : (r : Row Entry) → r ∈ U.rows → r ∈ T.rows
   pub size : length U.rows ≡ length T.rows
 
--- p and q have the same answers on every database that is legal for the functional dependencies: t is an answer of the one exactly when it is one of the other.
+-- p and q have the same answers on every database of a class: t is an answer of the one exactly when it is one of the other.
 -- `∥ ∥₁` asks only that there is an assignment, not which
-abbrev pub Equivalent : List ℕ → List Dependency → Query → Query → Type 0
-Equivalent widths ds p q = (D : Database) → Legal widths ds D → (t : List ℕ) → ∥ Answer D p t ∥₁ ↔ ∥ Answer D q t ∥₁
+abbrev pub Equivalent : (Database → Type 0) → Query → Query → Type 0
+Equivalent C p q = (D : Database) → C D → (t : List ℕ) → ∥ Answer D p t ∥₁ ↔ ∥ Answer D q t ∥₁
 
--- R is a rival of S: a query of the same head length with the same answers on every legal database, whatever its rows, variables and constants.
+-- R is a rival of S over a class of databases: a query of the same head length with the same answers on each of them, whatever its rows, variables and constants.
 -- `width` is what SPECIFICATION, The demands, asks of rivals; no proof needs it
-pub record Rival (widths : List ℕ) (ds : List Dependency) (S R : Query) : Type 0 where
+pub record Rival (C : Database → Type 0) (S R : Query) : Type 0 where
   pub width : length R.head ≡ length S.head
-  pub same : Equivalent widths ds S R
+  pub same : Equivalent C S R
 
 -- No rival of S has fewer rows than T
-abbrev pub Minimal : List ℕ → List Dependency → Query → Query → Type 0
-Minimal widths ds S T = (R : Query) → Rival widths ds S R → length T.rows ≤ length R.rows
+abbrev pub Minimal : (Database → Type 0) → Query → Query → Type 0
+Minimal C S T = (R : Query) → Rival C S R → length T.rows ≤ length R.rows
+
+-- No query that, as it is read, is a rival of S has fewer rows than T
+abbrev pub MinimalAsRead : List CodePair → (Database → Type 0) → Query → Query → Type 0
+MinimalAsRead ps C S T = (R : Query) → Rival C S (read_query ps R) → length T.rows ≤ length R.rows

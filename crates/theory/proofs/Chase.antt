@@ -5,10 +5,11 @@
 --   3. Each replacement is a mapping, and keeps the answers on every database that obeys the dependencies: an assignment into such a database
 --      gives the two entries the same value. A clash asks two different constants to be equal, so there was no answer.
 --   4. Where the chase rests no dependency is broken, so its result, read as a database, obeys them.
---   5. What the chase keeps: well-formed queries, the head's length, the number of rows, constants below a base; it makes no variable and no entry.
+--   5. What the chase keeps: well-formed queries, the head's length, the number of rows, what holds of each entry, so constants below a
+--      base; it makes no variable.
 -- Sections 2 to 5 are inductions on `Chases`; each law is stated of any chase first and then of `chase`. The survivor of a replacement is
 -- that of SPECIFICATION, The chase, and no law depends on which of the two it is. Assumes nothing.
-use mathlib.Core.Path.{◌≡◌, refl, sym, ◌∙◌, ap}
+use mathlib.Core.Path.{◌≡◌, refl, sym, ◌∙◌, ap, subst}
 use mathlib.Core.Logic.Iff
 use mathlib.Core.Logic.{◌≢◌, ◌↔◌, ◌⊎◌, inl, inr, ⊎_elim}
 use mathlib.Core.List.Memᴰ
@@ -18,17 +19,17 @@ use Prim.Native.Nat.{ℕ, zero, suc, ◌+◌, ◌≤◌, ◌<◌}
 use native.Mathlib.Omega.{arith}
 use lib.ListN.{length, length-map, length-replicate, get_or-map}
 use Rattle.theory.specs.Query.{Entry, constant, variable, Row, Query, never, column, map_row, map_query, row_entries, variables, variable_count}
-use Rattle.theory.specs.Query.{FitsSchema, WellFormed, ◌∈◌}
+use Rattle.theory.specs.Query.{FitsSchema, RowsFit, WellFormed, ◌∈◌}
 use Rattle.theory.specs.Database.{Database, Dependency, Obeys}
 use Rattle.theory.specs.Answer.{Answer, Mapping}
 use Rattle.theory.specs.Chase.{Resolution, clash, replace, substitute, Chases, rests, clashes, replaces, Chased, one_more, chase_on, chase_for}
 use Rattle.theory.specs.Chase.{chase, step}
 use Rattle.theory.specs.Containment.{ConstantsBelow, freeze, frozen_rows}
 use Rattle.theory.proofs.Lists.{replicate-mem, list_cases}
-use Rattle.theory.proofs.Entries.{constant-same, constant-variable, variables_of-mem, mem-variables_of, column-row_entries}
+use Rattle.theory.proofs.Entries.{constant-same, constant-variable, variables_of-mem, mem-variables_of, column-row_entries, EachEntry}
 use Rattle.theory.proofs.Step.{step-never, step-clash, step-replace, step-nothing, first_broken-nothing}
 use Rattle.theory.proofs.Replacement.{step_count, replace-carries, some-map_query, replace-answers, clash-answers, map_query-rows-fit}
-use Rattle.theory.proofs.Replacement.{replace-head-safe, forced-constants, forced-variables, forced-entries}
+use Rattle.theory.proofs.Replacement.{replace-head-safe, forced-variables, forced-entries}
 use Rattle.theory.proofs.Carry.{mapping-of, mapping-compose, mapping-self}
 
 -- ---- 1. the chase ends, and is one
@@ -219,15 +220,6 @@ never-entry n e at =
 never-variables : (n v : ℕ) → v ∈ variables (never n) → ⊥
 never-variables n v at = constant-variable 0 v (sym (never-entry n (variable v) (variables_of-mem v ((never n).head ++ row_entries (never n).rows) at)))
 
-never-constants : (n base : ℕ) → 0 < base → ConstantsBelow base (never n)
-never-constants n base pos =
-    let below : (m : ℕ) → constant m ∈ (never n).head ++ row_entries (never n).rows → m < base =
-    λ m at. let is : m ≡ 0 = constant-same (never-entry n (constant m) at) in omega arith in
-    record {
-      of-head = λ m at. below m (Memᴰ.append_left (row_entries (never n).rows) at);
-      of-rows = λ m at. below m (Memᴰ.append_right (never n).head at);
-    }
-
 -- Relations and widths of rows
 pub chases-rows-fit : {ds : List Dependency} {q result : Query} {count : ℕ} (widths : List ℕ) → Chases ds q result count
     → ((r : Row Entry) → r ∈ q.rows → FitsSchema widths r) → (r : Row Entry) → r ∈ result.rows → FitsSchema widths r
@@ -269,13 +261,38 @@ chases-head-length {q} (replaces {v} {e} is c) = chases-head-length c ∙ length
 pub chase-head-length : (ds : List Dependency) (q : Query) → length (chase ds q).query.head ≡ length q.head
 chase-head-length ds q = chases-head-length (chase-chases ds q)
 
--- Constants below a base
+-- What holds of each entry of the query holds of each of the chased one. Constant 0, which stands in for a missing column and in the head of never,
+-- comes from nowhere if the rows fit a schema and the chased query is not never
+pub chases-entries : {ds : List Dependency} {q result : Query} {count : ℕ} (P : Entry → Type 0) → Chases ds q result count
+    → P (constant 0) ⊎ (((widths : List ℕ) × RowsFit widths q) × (result.rows ≢ [])) → EachEntry P q → EachEntry P result
+chases-entries P (rests is) default all = all
+chases-entries {q} P (clashes is) (inl holds) all = λ x at. subst P (sym (never-entry (length q.head) x at)) holds
+chases-entries P (clashes is) (inr (fit, nonempty)) all = absurd (nonempty refl)
+chases-entries {ds} {q} P (replaces {v} {e} is c) default all =
+    let f = step-replace ds q v e is in
+    chases-entries P c
+    (⊎_elim inl (λ both. inr ((both.0.0, map_query-rows-fit both.0.0 (substitute v e) q both.0.1), both.1)) default)
+    (forced-entries P q f.0 f.1 (⊎_elim inl (λ both. inr both.0) default) all)
+
+-- So with constants below a base
+pub constants-each : (base : ℕ) (q : Query) → ConstantsBelow base q → EachEntry (λ x. (n : ℕ) → x ≡ constant n → n < base) q
+constants-each base q below x at n is =
+    ⊎_elim (λ there. below.of-head n (Memᴰ.cast (sym is) there)) (λ there. below.of-rows n (Memᴰ.cast (sym is) there)) (Memᴰ.append_cases q.head at)
+
+pub each-constants : (base : ℕ) (q : Query) → EachEntry (λ x. (n : ℕ) → x ≡ constant n → n < base) q → ConstantsBelow base q
+each-constants base q all = record {
+  of-head = λ n at. all (constant n) (Memᴰ.append_left (row_entries q.rows) at) n refl;
+  of-rows = λ n at. all (constant n) (Memᴰ.append_right q.head at) n refl;
+}
+
+-- Constant 0 is below it too, where it is above 0
+pub zero-below : (base : ℕ) → 0 < base → (n : ℕ) → constant 0 ≡ constant n → n < base
+zero-below base positive n is = let zero : 0 ≡ n = constant-same is in omega arith
+
 pub chases-constants : {ds : List Dependency} {q result : Query} {count : ℕ} (base : ℕ) → 0 < base → Chases ds q result count
     → ConstantsBelow base q → ConstantsBelow base result
-chases-constants base pos (rests is) below = below
-chases-constants {q} base pos (clashes is) below = never-constants (length q.head) base pos
-chases-constants {ds} {q} base pos (replaces {v} {e} is c) below =
-    chases-constants base pos c (forced-constants q base pos (step-replace ds q v e is).0 below)
+chases-constants {q} {result} base pos c below =
+    each-constants base result (chases-entries (λ x. (n : ℕ) → x ≡ constant n → n < base) c (inl (zero-below base pos)) (constants-each base q below))
 
 pub chase-constants : (ds : List Dependency) (q : Query) (base : ℕ) → 0 < base → ConstantsBelow base q → ConstantsBelow base (chase ds q).query
 chase-constants ds q base pos below = chases-constants base pos (chase-chases ds q) below
@@ -286,14 +303,6 @@ pub chases-variables : {ds : List Dependency} {q result : Query} {count : ℕ} �
 chases-variables (rests is) v at = at
 chases-variables {q} (clashes is) v at = absurd (never-variables (length q.head) v at)
 chases-variables {ds} {q} (replaces {v = w} {e} is c) v at = forced-variables q (step-replace ds q w e is).0 v (chases-variables c v at)
-
--- nor any entry, but for the constant 0 of never and of a missing column
-pub chases-entries : {ds : List Dependency} {q result : Query} {count : ℕ} → Chases ds q result count
-    → (x : Entry) → x ∈ result.head ++ row_entries result.rows → (x ≡ constant 0) ⊎ (x ∈ q.head ++ row_entries q.rows)
-chases-entries (rests is) x at = inr at
-chases-entries {q} (clashes is) x at = inl (never-entry (length q.head) x at)
-chases-entries {ds} {q} (replaces {v} {e} is c) x at =
-    ⊎_elim inl (forced-entries q (step-replace ds q v e is).0 x) (chases-entries c x at)
 
 -- The number of rows: without a clash it stays,
 pub chases-length : {ds : List Dependency} {q result : Query} {count : ℕ} → Chases ds q result count

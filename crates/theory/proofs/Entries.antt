@@ -100,6 +100,10 @@ pub entries-map : (f : Entry → Entry) (q : Query)
     → (map_query f q).head ++ row_entries (map_query f q).rows ≡ map f (q.head ++ row_entries q.rows)
 entries-map f q = ap (λ l. map f q.head ++ l) (row_entries-map f q.rows) ∙ sym (map-append f q.head (row_entries q.rows))
 
+-- What holds of each entry of a query, in the head and in the rows
+abbrev pub EachEntry : (Entry → Type 0) → Query → Type 0
+EachEntry P q = (x : Entry) → x ∈ q.head ++ row_entries q.rows → P x
+
 -- ---- substitution
 
 -- The variable itself becomes the entry, all else stays

@@ -9,4 +9,5 @@ pub mod Survivor
 pub mod Replacement
 pub mod Chase
 pub mod Containment
+pub mod Codes
 pub mod Theorems

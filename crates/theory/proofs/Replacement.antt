@@ -1,25 +1,23 @@
 -- What a replacement of the chase keeps: it is a mapping; it keeps the answers on every database that obeys the dependencies, for an assignment into one gives
--- forced entries the same value; it takes away exactly one variable and brings none; it keeps constants below a base, and well-formed queries.
+-- forced entries the same value; it takes away exactly one variable and brings none; it keeps what holds of each entry, and well-formed queries.
 -- Substitution by itself is in `Entries`, what forces a replacement in `Step`. Assumes nothing.
-use mathlib.Core.Path.{◌≡◌, sym, ◌∙◌, ap}
+use mathlib.Core.Path.{◌≡◌, sym, ◌∙◌, ap, subst}
 use mathlib.Core.Logic.{◌≢◌, ◌↔◌, ◌⊎◌, inl, inr, ⊎_elim}
 use mathlib.Core.Option.{some}
 use mathlib.Core.List.Memᴰ
 use mathlib.Core.List.{List, [], ◌++◌, map, map-map}
-use Prim.Native.Nat.{ℕ, suc, ◌<◌}
-use native.Mathlib.Omega.{arith}
+use Prim.Native.Nat.{ℕ, suc}
 use lib.ListN.{get_or-map, length-map}
 use Rattle.theory.specs.Query.{Entry, constant, variable, Row, Query, column, map_row, map_query, row_entries, variables_of, variables}
-use Rattle.theory.specs.Query.{variable_count, FitsSchema, ◌∈◌}
+use Rattle.theory.specs.Query.{variable_count, FitsSchema, RowsFit, ◌∈◌}
 use Rattle.theory.specs.Database.{Database, Dependency, Obeys}
 use Rattle.theory.specs.Chase.{replace, substitute, step}
 use Rattle.theory.specs.Answer.{value_of, itself, Carries, Answer}
-use Rattle.theory.specs.Containment.{ConstantsBelow}
 use Rattle.theory.proofs.Lists.{map-empty, map-agree}
-use Rattle.theory.proofs.Entries.{constant-variable, substitute-value_of, substitute-cases, substitute-mem, constant-same, mem-variables_of}
-use Rattle.theory.proofs.Entries.{variables_of-mem, entries-map, row_entries-map, replace-count, substitute-constant}
+use Rattle.theory.proofs.Entries.{constant-variable, substitute-value_of, substitute-cases, substitute-mem, mem-variables_of}
+use Rattle.theory.proofs.Entries.{variables_of-mem, entries-map, row_entries-map, replace-count, substitute-constant, EachEntry}
 use Rattle.theory.proofs.Carry.{carries-compose}
-use Rattle.theory.proofs.Step.{Forced, forced-swap, forced-entry, forced-variable, step-replace}
+use Rattle.theory.proofs.Step.{Forced, forced-swap, forced-entry, forced-variable, forced-there, step-replace}
 
 -- A replacement is a mapping from the query to what it becomes
 pub replace-carries : (v : ℕ) (e : Entry) (q : Query) → q.rows ≢ []
@@ -139,36 +137,22 @@ forced-variables {e} {v} q f w at =
     (λ c. mem-variables_of w es c.1)
     (substitute-mem v e (variable w) es (rw (entries-map (substitute v e) q) at (variables_of-mem w after at)))
 
--- nor any entry, but for the constant 0 that stands in for a missing column
-pub forced-entries : {ds : List Dependency} {e : Entry} {v : ℕ} (q : Query) → Forced ds q.rows (variable v) e
-    → (x : Entry) → x ∈ (map_query (substitute v e) q).head ++ row_entries (map_query (substitute v e) q).rows
-    → (x ≡ constant 0) ⊎ (x ∈ q.head ++ row_entries q.rows)
-forced-entries {e} {v} q f x at =
+-- What holds of each entry of a query holds after a replacement. The entry that comes stands in the rows, if these fit a schema; otherwise it may be the constant 0
+-- that stands in for a missing column
+pub forced-entries : {ds : List Dependency} {e : Entry} {v : ℕ} (P : Entry → Type 0) (q : Query) → Forced ds q.rows (variable v) e → e ≢ variable v
+    → P (constant 0) ⊎ ((widths : List ℕ) × RowsFit widths q) → EachEntry P q → EachEntry P (map_query (substitute v e) q)
+forced-entries {e} {v} P q f other default all x at =
     ⊎_elim
-    (λ c. ⊎_elim
-    (λ default. inl (c.0 ∙ default))
-    (λ there. inr (Memᴰ.append_right q.head (Memᴰ.cast c.0 there)))
-    (forced-entry (forced-swap f)))
-    (λ c. inr c.1)
+    (λ c. subst P (sym c.0) (comes default))
+    (λ c. all x c.1)
     (substitute-mem v e x (q.head ++ row_entries q.rows) (rw (entries-map (substitute v e) q) at at))
+  where
+    there : e ∈ row_entries q.rows → P e
+    there at = all e (Memᴰ.append_right q.head at)
 
--- A replacement keeps the constants below a base
-pub forced-constants : {ds : List Dependency} {e : Entry} {v : ℕ} (q : Query) (base : ℕ) → 0 < base → Forced ds q.rows (variable v) e
-    → ConstantsBelow base q → ConstantsBelow base (map_query (substitute v e) q)
-forced-constants {e} {v} q base pos f below =
-    let survivor : (n : ℕ) → constant n ≡ e → n < base = λ n is.
-    ⊎_elim
-    (λ default. let is_zero : n ≡ 0 = constant-same (is ∙ default) in omega arith)
-    (λ there. below.of-rows n (Memᴰ.cast is there))
-    (forced-entry (forced-swap f)) in
-    record {
-      of-head = λ n at. ⊎_elim (λ c. survivor n c.0) (λ c. below.of-head n c.1) (substitute-mem v e (constant n) q.head at);
-      of-rows = λ n at.
-          ⊎_elim
-          (λ c. survivor n c.0)
-          (λ c. below.of-rows n c.1)
-          (substitute-mem v e (constant n) (row_entries q.rows) (rw (row_entries-map (substitute v e) q.rows) at at));
-    }
+    comes : P (constant 0) ⊎ ((widths : List ℕ) × RowsFit widths q) → P e
+    comes (inl holds) = ⊎_elim (λ is. subst P (sym is) holds) there (forced-entry (forced-swap f))
+    comes (inr fit) = there (forced-there fit.0 fit.1 f (λ same. other (sym same)))
 
 -- A change of entries keeps the rows' relations and widths
 pub map_query-rows-fit : (widths : List ℕ) (f : Entry → Entry) (q : Query) → ((r : Row Entry) → r ∈ q.rows → FitsSchema widths r)

@@ -7,18 +7,21 @@ use mathlib.Core.Bool.{Bool, true, false, not, ◌&&◌, true≢false}
 use mathlib.Core.Option.{Option, none, some, none-ne-some, some-injective, map-eq-none_iff, map-eq-some_iff, or_else, map}
 use mathlib.Core.List.Memᴰ
 use mathlib.Core.List.{List, [], ◌∷◌}
-use Prim.Native.Nat.{ℕ}
+use Prim.Native.Nat.{ℕ, ◌<◌}
 use native.Mathlib.Omega.{arith}
 use borrow.Author.Tests.{eqb-true, eq-eqb, not-true}
+use native.Mathlib.Decide.{dec_lt}
 use lib.Dec.{eqb}
-use Rattle.theory.specs.Query.{Entry, constant, variable, Row, Query, same_entry, column, row_entries, ◌∈◌}
+use lib.ListN.{length, get_or, get_or-eq_default}
+use Rattle.lists.proofs.Positions.{get_or-in}
+use Rattle.theory.specs.Query.{Entry, constant, variable, Row, Query, same_entry, column, row_entries, FitsSchema, ◌∈◌}
 use Rattle.theory.specs.Database.{Dependency, Agree}
 use Rattle.theory.specs.Chase.{first_passing, first_pair, first_found, agree, breaks, first_broken, Resolution, clash, replace}
 use Rattle.theory.specs.Chase.{survives, resolve, in_head, resolve_pair, step}
 use Rattle.theory.specs.OrderTheorems.{Broken}
 use Rattle.lists.proofs.Tests.{and_left, and_right}
 use Rattle.theory.proofs.Lists.{bool_cases, mem-cases, option_cases}
-use Rattle.theory.proofs.Entries.{same_entry-eq, eq-same_entry, same_entry-ne, ne-same_entry, entry-dec, constant-variable, column-row_entries}
+use Rattle.theory.proofs.Entries.{same_entry-eq, eq-same_entry, same_entry-ne, ne-same_entry, entry-dec, constant-variable, column-row_entries, row-row_entries}
 
 -- ---- the search, at the head of a list
 
@@ -329,6 +332,26 @@ forced-entry {rows} f =
 -- so a forced variable does
 pub forced-variable : {ds : List Dependency} {rows : List (Row Entry)} {y : Entry} {v : ℕ} → Forced ds rows (variable v) y → variable v ∈ row_entries rows
 forced-variable {v} f = ⊎_elim (λ default. absurd (constant-variable 0 v (sym default))) (λ there. there) (forced-entry f)
+
+-- Of different entries that are forced to be equal the second stands in the rows, if these fit a schema: then both columns are there, or neither is
+pub forced-there : {ds : List Dependency} {rows : List (Row Entry)} {x y : Entry} (widths : List ℕ)
+    → ((r : Row Entry) → r ∈ rows → FitsSchema widths r) → Forced ds rows x y → x ≢ y → y ∈ row_entries rows
+forced-there {rows} {x} {y} widths fit f other = go (dec_lt f.dependency.right (length f.second.values))
+  where
+    wide : length f.first.values ≡ length f.second.values
+    wide =
+        (fit f.first f.first-there).1 ∙ ap (λ k. get_or widths k 0) (f.first-relation ∙ sym f.second-relation)
+        ∙ sym (fit f.second f.second-there).1
+
+    go : Dec (f.dependency.right < length f.second.values) → y ∈ row_entries rows
+    go (yes inside) =
+        row-row_entries rows f.second y f.second-there
+        (Memᴰ.cast (sym f.second-entry) (get_or-in f.second.values f.dependency.right (constant 0) inside))
+    go (no outside) =
+        absurd
+        (other
+        (sym f.first_entry ∙ get_or-eq_default f.first.values (constant 0) (omega (arith, wide))
+        ∙ sym (get_or-eq_default f.second.values (constant 0) (omega arith)) ∙ f.second-entry))
 
 pub clash-replace : (v : ℕ) (e : Entry) → clash ≡ replace v e → ⊥
 clash-replace v e is = let z : ◌≡◌ {A = ℕ} 0 1 = cc in omega arith

@@ -1,22 +1,26 @@
--- A proof of each statement of specs/, file by file: `AnswerTheorems`, `OrderTheorems`, `ChaseTheorems`. Most are proved in the files before; here they
+-- A proof of each statement of specs/, file by file: `AnswerTheorems`, `OrderTheorems`, `ChaseTheorems`, `CodeTheorems`. Most are proved in the files before; here they
 -- have the form in which they are stated.
 -- Assumes nothing.
 use mathlib.Core.Path.{◌≡◌, refl, sym, ◌∙◌, ap, subst}
 use mathlib.Core.Logic.{◌⊎◌, inl, inr, ⊎_elim}
-use mathlib.Core.List.{List, [], map}
+use mathlib.Core.Bool.{true≢false}
+use mathlib.Core.List.Memᴰ
+use mathlib.Core.List.{List, [], ◌∷◌, map}
 use mathlib.Core.Option.{none, some}
 use Prim.Native.Nat.{ℕ, suc, ◌+◌}
 use native.Mathlib.Omega.{arith}
 use lib.ListN.{length, length-map}
-use Rattle.theory.specs.Query.{Query, never, map_row, map_query, variable_count, ◌∈◌}
+use Rattle.theory.specs.Query.{Query, never, map_row, map_query, variable_count, member, ◌∈◌}
 use Rattle.theory.specs.Database.{Dependency}
 use Rattle.theory.specs.Answer.{value_of, itself}
 use Rattle.theory.specs.Chase.{first_pair, breaks, first_broken, clash, substitute, step, Chases, rests, clashes, replaces, chase}
+use Rattle.theory.specs.Codes.{CodePair, read_code, read_head, read_query, read_database, WithoutOld}
 use Rattle.theory.specs.AnswerTheorems as answers
 use Rattle.theory.specs.OrderTheorems as order
 use Rattle.theory.specs.ChaseTheorems as chases
+use Rattle.theory.specs.CodeTheorems as codes
 use Rattle.theory.specs.ChaseTheorems.{Replacements, start, next, RestsAfter, ClashesAfter}
-use Rattle.theory.proofs.Lists.{option_cases, map-empty}
+use Rattle.theory.proofs.Lists.{option_cases, map-empty, mem-cases}
 use Rattle.theory.proofs.Step.{breaks-broken, broken-breaks, first_broken-found, first_broken-nothing, step-found, step-nothing, step-rests, step-never}
 use Rattle.theory.proofs.Order.{first_pair-first, first_pair-no-pair, first_found-first}
 use Rattle.theory.proofs.Survivor.{constant-survives, head-survives, lower-survives, constants-clash}
@@ -25,6 +29,9 @@ use Rattle.theory.proofs.Carry.{carries-more, mapping-target}
 use Rattle.theory.proofs.Chase.{chase-chases, chases-unique, chased-by, chases-count-le, chases-answers, chases-mapping, chases-rests}
 use Rattle.theory.proofs.Chase.{chases-wellformed, chases-head-length, chases-rows-fit, chases-constants, rests-obeys}
 use Rattle.theory.proofs.Containment.{answer-along, frozen-sound}
+use Rattle.theory.proofs.Codes.{read-twice, read-is-current, others-stay, old-is-read, database-read, current-database, query-read, current-query}
+use Rattle.theory.proofs.Codes.{read-rows-fit, read-length, read-head-length, read-head-variables, read-row-variables, read-variables}
+use Rattle.theory.proofs.Codes.{answer-current, chases-current, frozen-current}
 
 -- ---- answers
 
@@ -204,3 +211,84 @@ the-lower-survives = lower-survives
 
 pub two-constants-clash : chases.ConstantsClash
 two-constants-clash = constants-clash
+
+-- ---- constants that were renumbered
+
+pub reading-twice : codes.ReadTwice
+reading-twice = read-twice
+
+pub what-is-read-is-current : codes.ReadIsCurrent
+what-is-read-is-current = read-is-current
+
+pub other-numbers-stay : codes.OthersStay
+other-numbers-stay = others-stay
+
+pub an-old-code-is-read : codes.OldIsRead
+an-old-code-is-read ps before after p is out = ap (λ l. read_code l p.old) is ∙ old-is-read before after p out
+
+pub stay-example : codes.StayExample
+unfolding member
+stay-example = (
+  λ p at. mem-cases at (λ here. ap (λ (p : CodePair). member p.current (5 ∷ 6 ∷ [])) here)
+      (λ later. mem-cases later (λ here. ap (λ (p : CodePair). member p.current (5 ∷ 6 ∷ [])) here) (λ none. absurd (Memᴰ.not-nil none))),
+  λ stay. true≢false (stay _ (Memᴰ.head refl)),
+)
+
+pub a-database-is-read : codes.DatabaseRead
+a-database-is-read = database-read
+
+pub a-current-database-stays : codes.CurrentDatabase
+a-current-database-stays = current-database
+
+pub legal-as-read-exactly : codes.LegalAsReadExactly
+legal-as-read-exactly ps widths ds D stay = (
+  λ as_read. (as_read.legal, current-database ps D as_read.current),
+  λ both. record { legal = both.0; current = subst (WithoutOld ps) both.1 (database-read ps D stay) },
+)
+
+pub database-example : codes.DatabaseExample
+unfolding read_code
+database-example = refl
+
+pub a-query-is-read : codes.QueryRead
+a-query-is-read = query-read
+
+pub a-current-query-stays : codes.CurrentQuery
+a-current-query-stays = current-query
+
+pub read-well-formed : codes.ReadWellFormed
+read-well-formed ps widths q well = record {
+  rows_fit = read-rows-fit ps widths q well.rows_fit;
+  head-safe = λ v at.
+      subst (λ vs. v ∈ vs) (sym (read-row-variables ps q)) (well.head-safe v (subst (λ vs. v ∈ vs) (read-head-variables ps q) at));
+}
+
+pub read-fits : codes.ReadRowsFit
+read-fits = read-rows-fit
+
+pub read-lengths : codes.ReadLengths
+read-lengths ps q = (read-length ps q, read-head-length ps q)
+
+pub reading-keeps-variables : codes.ReadVariables
+reading-keeps-variables = read-variables
+
+pub query-example : codes.QueryExample
+unfolding read_code read_head
+query-example = refl
+
+pub nothing-read : codes.NothingRead
+unfolding member
+nothing-read = (
+  λ q. current-query [] q (record { of-head = λ some n at. refl; of-rows = λ n at. refl }),
+  λ D. current-database [] D (λ r at n there. refl),
+)
+
+pub answers-current : codes.AnswersCurrent
+answers-current ps widths D q t stay well =
+    answer-current ps (read_database ps D) (read_query ps q) t (database-read ps D stay) (query-read ps q stay) (read-well-formed ps widths q well).head-safe
+
+pub chase-current : codes.ChaseCurrent
+chase-current ps widths ds q fit = chases-current ps widths fit (chase-chases ds q)
+
+pub frozen-is-current : codes.FrozenCurrent
+frozen-is-current = frozen-current

@@ -8,3 +8,4 @@ pub mod Codes
 pub mod AnswerTheorems
 pub mod OrderTheorems
 pub mod ChaseTheorems
+pub mod CodeTheorems
