@@ -20,7 +20,7 @@ use Rattle.lists.specs.Tests.{every}
 use Rattle.lists.proofs.Tests.{and_left, and_right, every_take}
 use Rattle.format.specs.Bytes.{bytes_of}
 use Rattle.format.specs.Format.{byte, sequence, padded, such_that, via}
-use Rattle.format.specs.Parts.{relations, code_pair, codes, dependency, dependencies, join, joins, put_entry, entry, entries, row, rows, chunk, query_for}
+use Rattle.format.specs.Parts.{relations, code_pair, code_pairs, codes, dependency, dependencies, join, joins, put_entry, entry, entries, row, rows, chunk, query_for}
 use Rattle.format.proofs.Numbers.{length-bytes}
 use Rattle.format.proofs.Parts.{Narrow, narrow_at, head_fits}
 
@@ -62,7 +62,7 @@ length-relations n widths =
     omega arith
 
 pub length-codes : (n : ℕ) (ps : List CodePair) → length (codes.put (n, ps)) ≡ 1 + 8 * length (take n ps)
-unfolding codes such_that sequence byte padded code_pair
+unfolding codes such_that code_pairs sequence byte padded code_pair
 length-codes n ps =
     let e = length-flat_map code_pair.put 8 length-pair (take n ps) in
     omega arith

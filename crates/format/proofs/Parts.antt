@@ -23,7 +23,7 @@ use Rattle.query.proofs.Good.{good-join}
 use Rattle.query.proofs.Shape.{blank-number, blank-cell, blank-dependency, blank-join}
 use Rattle.format.specs.Bytes.{number, bytes_of, Bytes}
 use Rattle.format.specs.Format.{got, got_if, Format, Lawful, byte, sequence, padded}
-use Rattle.format.specs.Parts.{relations, pair_at, code_pair, codes, dependency_at, dependency, dependencies, put_entry, is_entry, entry_from, entry, entries, row, no_row, blank_row}
+use Rattle.format.specs.Parts.{relations, pair_at, code_pair, code_pairs, codes, dependency_at, dependency, dependencies, put_entry, is_entry, entry_from, entry, entries, row, no_row, blank_row}
 use Rattle.format.specs.Parts.{join_at, join, unused_join, joins, rows, chunk, flat, QueryFields, query_with, fields_of, full_cells, query_for}
 use Rattle.lists.proofs.Tests.{and_left, and_right, and_both, and-iff, every_drop, every-join, every-weaken, every-same, used-blank}
 use Rattle.lists.proofs.Loops.{stretch-length}
@@ -94,14 +94,17 @@ code_pair-lawful =
           );
     }
 
-pub codes-lawful : Lawful codes
-unfolding codes byte
-codes-lawful =
-    such_that-lawful (λ c. good_codes c.0 c.1) (sequence (byte (between 1 16)) (λ n. padded 16 no_pair blank_pair n code_pair))
-    (sequence-lawful (byte (between 1 16)) (λ n. padded 16 no_pair blank_pair n code_pair) (byte-lawful (between 1 16))
+code_pairs-lawful : Lawful code_pairs
+unfolding code_pairs byte
+code_pairs-lawful =
+    sequence-lawful (byte (between 1 16)) (λ n. padded 16 no_pair blank_pair n code_pair) (byte-lawful (between 1 16))
     (λ n h.
     let k : (leb 1 n ≡ true) × (leb n 16 ≡ true) = simp and-iff at h in
-    padded-lawful 16 no_pair blank_pair n code_pair blank-pair refl (leb-true n 16 k.1) code_pair-lawful))
+    padded-lawful 16 no_pair blank_pair n code_pair blank-pair refl (leb-true n 16 k.1) code_pair-lawful)
+
+pub codes-lawful : Lawful codes
+unfolding codes
+codes-lawful = such_that-lawful (λ c. good_codes c.0 c.1) code_pairs code_pairs-lawful
 
 -- three bytes off the front
 three : (bytes : List ℕ) → leb 3 (length bytes) ≡ true → (get_or bytes 0 0 ∷ get_or bytes 1 0 ∷ get_or bytes 2 0 ∷ drop 3 bytes) ≡ bytes

@@ -25,7 +25,7 @@ use Rattle.refusals.specs.Refusals.{◌>>=◌, bad_code, bad_dependency, bad_joi
 use Rattle.format.specs.Bytes.{Bytes}
 use Rattle.lists.specs.Over.{pad}
 use Rattle.format.specs.Format.{Reading, none, got, Format, Lawful, byte, sequence, such_that}
-use Rattle.format.specs.Parts.{relations, codes, dependencies, unused_join, joins, query}
+use Rattle.format.specs.Parts.{relations, code_pairs, codes, dependencies, unused_join, joins, query}
 use Rattle.format.specs.File.{complete, directory, assemble, read_places, record_with, read_parts, read_all, read_file, put_place, up_to_filled, parts_of}
 use Rattle.format.specs.File.{front, no_codes, read_codes, put_codes, no_joins, read_joins, put_joins, file_of, shaped}
 use Rattle.lists.proofs.Tests.{and_left, and_right, and_both, and-iff, every_take, every_drop, every-both, every-weaken, every-replicate, every-same}
@@ -113,7 +113,7 @@ none-coded cs empty l h =
     λ i. (empty i, same i)
 
 some_codes : (cs : ℕ × List CodePair) → read_codes (codes.put cs) ≡ complete bad_code (codes.get (codes.put cs))
-unfolding read_codes codes such_that sequence byte
+unfolding read_codes codes such_that code_pairs sequence byte
 some_codes cs = refl
 
 -- what is written of them is read back

@@ -17,7 +17,7 @@ use Rattle.lists.specs.Tests.{between, every, is_zero}
 use Rattle.query.specs.Rule.{blank_cell, blank_dependency, good_dependency, good_row, good_rows, good_relations, good_dependencies, good_up_to, shaped_for}
 use Rattle.query.specs.Rule.{good_pair, all_fit, blank_pair, good_codes, blank_join, good_join, good_joins, shaped_join}
 use Rattle.format.specs.Format.{byte, sequence, padded, such_that, via}
-use Rattle.format.specs.Parts.{relations, fits_words, code_pair, codes, dependency, dependencies, entry, entries, row, blank_row, rows, chunk}
+use Rattle.format.specs.Parts.{relations, fits_words, code_pair, code_pairs, codes, dependency, dependencies, entry, entries, row, blank_row, rows, chunk}
 use Rattle.format.specs.Parts.{join, unused_join, joins, query_for}
 use Rattle.lists.proofs.Tests.{and_left, and_right, and_both, and-iff, every-append-is, every-weaken, every-both, every_take, every_drop, every-join}
 use Rattle.query.proofs.Pairs.{each-good}
@@ -56,14 +56,14 @@ fits-words p h =
     and_both _ _ (lt-ltb p.old (2 ^ 32) (omega arith)) (lt-ltb p.current (2 ^ 32) (omega arith))
 
 pub codes-good : (n : ℕ) (ps : List CodePair) → 1 ≤ n → length ps ≡ 16 → good_codes n ps ≡ true → codes.good (n, ps) ≡ true
-unfolding codes such_that sequence byte padded code_pair good_codes
+unfolding codes such_that code_pairs sequence byte padded code_pair good_codes
 codes-good n ps some l h =
     let k : ((leb n 16 ≡ true) × (all_fit (take n ps) ≡ true)) × (every blank_pair (drop n ps) ≡ true) = simp and-iff at h in
     let words : every fits_words (take n ps) ≡ true = every-weaken good_pair fits_words fits-words (take n ps) (each-good (take n ps) k.0.1) in
     simp and-iff (((le-leb 1 n some, k.0.0), (eq-eqb (length ps) 16 l, (words, k.1))), k)
 
 pub good-codes : (p : ℕ × List CodePair) → codes.good p ≡ true → (1 ≤ p.0) × (length p.1 ≡ 16) × (good_codes p.0 p.1 ≡ true)
-unfolding codes such_that sequence byte padded
+unfolding codes such_that code_pairs sequence byte padded
 good-codes p h =
     let k : (((leb 1 p.0 ≡ true) × (leb p.0 16 ≡ true)) × ((eqb (length p.1) 16 ≡ true)
     × ((every code_pair.good (take p.0 p.1) ≡ true) × (every blank_pair (drop p.0 p.1) ≡ true)))) × (good_codes p.0 p.1 ≡ true) = simp and-iff at h in

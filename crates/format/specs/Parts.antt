@@ -39,9 +39,13 @@ code_pair =
       get = λ bytes. got_if (leb 8 (length bytes)) (pair_at bytes) (drop 8 bytes);
     }
 
--- Part 0 goes on where pairs of codes are held: their count, then 8 bytes each. Together they keep the rule
+-- The count of pairs of codes, then 8 bytes each
+unfoldable pub code_pairs : Format (ℕ × List CodePair)
+code_pairs = sequence (byte (between 1 16)) (λ n. padded 16 no_pair blank_pair n code_pair)
+
+-- Part 0 goes on where pairs of codes are held: these pairs, which together keep the rule
 unfoldable pub codes : Format (ℕ × List CodePair)
-codes = such_that (λ c. good_codes c.0 c.1) (sequence (byte (between 1 16)) (λ n. padded 16 no_pair blank_pair n code_pair))
+codes = such_that (λ c. good_codes c.0 c.1) code_pairs
 
 -- The dependency that three bytes stand for
 abbrev pub dependency_at : List ℕ → Dependency
