@@ -1,7 +1,7 @@
 -- `put_codes` meets its contract. Assumes nothing.
 use borrow.Author.Rules.{rules}
-use mathlib.Core.Path.{◌≡◌, refl, sym, ap, ◌∙◌}
-use mathlib.Core.List.{List, [], flat_map}
+use mathlib.Core.Path.{◌≡◌, sym, ap, ◌∙◌}
+use mathlib.Core.List.{List, flat_map}
 use Prim.Native.Nat.{ℕ, ◌+◌, ◌*◌, ◌≤◌}
 use native.Mathlib.Nat.{add-zero}
 use native.Mathlib.Omega.{arith}
@@ -10,8 +10,8 @@ use Rattle.query.specs.declared.CodePair.{CodePair}
 use Rattle.query.specs.Rule.{no_pair}
 use Rattle.lists.specs.Over.{over}
 use Rattle.lists.proofs.Over.{over-nil}
-use Rattle.assembly.specs.internal.Pieces.{put_pair, codes_bytes, codes_long}
-use Rattle.encoder.proofs.Stores.{Writing, writing-starts, writing-room, writing-turns, writing-ends, byte-and-run}
+use Rattle.assembly.specs.internal.Pieces.{put_pair}
+use Rattle.encoder.proofs.Stores.{Writing, writing-starts, writing-turns, writing-ends, byte-and-run}
 use Rattle.assembly.proofs.Codes.{length-pair, codes-none, none-long, codes-some, some-long, pairs-long}
 use Rattle.assembly.proofs.put_codes.Goals as goal
 
@@ -43,6 +43,6 @@ returns c =
     let some = c.if-coded-eq0.false in (
       byte-and-run c.args.buffer.now c.args.at c.args.coded (flat_map put_pair (take c.args.coded c.args.list)) c.loop-i.buffer
           (omega (arith, some-long c.args.coded some, c.requires.list_in_bounds)) (writing-ends c.loop-i.invariant c.loop-i-test.false).0
-      ∙ ap (over c.args.buffer.now c.args.at) (sym (codes-some c.args.coded c.args.list some)),
+          ∙ ap (over c.args.buffer.now c.args.at) (sym (codes-some c.args.coded c.args.list some)),
       omega (arith, some-long c.args.coded some),
     )

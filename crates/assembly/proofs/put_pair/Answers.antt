@@ -1,5 +1,5 @@
 -- `put_pair` meets its contract: one number after the other. Assumes nothing.
-use mathlib.Core.Path.{◌≡◌, refl}
+use mathlib.Core.Path.{refl}
 use Prim.Native.Nat.{◌+◌}
 use native.Mathlib.Omega.{arith}
 use Rattle.format.specs.Bytes.{bytes_of}

@@ -1,5 +1,5 @@
 -- A byte and then four
-use Rattle.std.proofs.Common.{◌+◌, arith}
+use Rattle.std.proofs.Common.{arith}
 use Rattle.format.specs.Bytes.{bytes_of}
 use Rattle.encoder.proofs.Stores.{byte-and-run}
 use Rattle.encoder.proofs.put_tagged.Goals as goal
