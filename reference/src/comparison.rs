@@ -1,6 +1,7 @@
 //! Comparing two places, and checking a mapping between them.
 
 use crate::chase::chase_with_joins;
+use crate::codes::{queries, read_images};
 use crate::mapping::{find, is_mapping, Mapping};
 use crate::record::*;
 
@@ -13,8 +14,9 @@ pub enum Verdict {
     NotContained(Query),
 }
 
-fn two(record: &Record, p: u8, q: u8) -> Result<[&Query; 2], Refusal> {
-    let both = record.filled([p, q])?;
+/// Both queries as they are read.
+fn two(record: &Record, p: u8, q: u8) -> Result<[Query; 2], Refusal> {
+    let both = queries(record, [p, q])?;
     if both[0].head_length != both[1].head_length {
         return Err(HEAD_LENGTHS);
     }
@@ -24,19 +26,19 @@ fn two(record: &Record, p: u8, q: u8) -> Result<[&Query; 2], Refusal> {
 /// Is p contained in q?
 pub fn compare(record: &Record, p: u8, q: u8) -> Result<Verdict, Refusal> {
     let [of_p, of_q] = two(record, p, q)?;
-    let chased = chase_with_joins(&record.dependencies, &record.joins, of_p)?;
+    let chased = chase_with_joins(&record.dependencies, &record.joins, &of_p)?;
     Ok(if chased.is_never() {
         Verdict::ContainedAsNever
     } else {
-        match find(of_q, &chased) {
+        match find(&of_q, &chased) {
             Some(mapping) => Verdict::Contained(mapping),
             None => Verdict::NotContained(chased),
         }
     })
 }
 
-/// Is it a mapping from q's query to p's query, as they are stored?
+/// Is it a mapping from q's query to p's query, neither of them chased? Both are read, and so are the images of the variables that q's query has.
 pub fn check(record: &Record, p: u8, q: u8, mapping: &Mapping) -> Result<bool, Refusal> {
     let [of_p, of_q] = two(record, p, q)?;
-    Ok(is_mapping(of_q, of_p, mapping))
+    Ok(is_mapping(&of_q, &of_p, &read_images(&record.codes, &of_q, mapping)))
 }

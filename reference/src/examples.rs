@@ -1,4 +1,4 @@
-//! The examples of SPECIFICATION, Examples, and some that single out each rule of reduction, of join dependencies and of empty left sets.
+//! The examples of SPECIFICATION, Examples, and some that single out each rule of reduction, of join dependencies, of empty left sets and of pairs of codes.
 
 use crate::chase::chase_with_joins;
 use crate::closure::determined;
@@ -241,11 +241,17 @@ fn the_longest_file() {
     for _ in 0..4 {
         record = record.add_join(&join).unwrap();
     }
+    assert_eq!(bytes(&record).len(), 4445);
+    for k in 0..16 {
+        record = record.add_code(CodePair { old: k, current: MAX_CONSTANT }).unwrap();
+    }
     let mut buffer = vec![9; 5000];
-    assert_eq!(write(&record, &mut buffer), Ok(4445));
-    assert_eq!(read(&buffer[..4445]), Ok(record.clone()));
-    assert!(buffer[4445..].iter().all(|&b| b == 9));
-    assert_eq!(write(&record, &mut buffer[..4444]), Err(10));
+    assert_eq!(write(&record, &mut buffer), Ok(4574));
+    assert_eq!(read(&buffer[..4574]), Ok(record.clone()));
+    assert!(buffer[4574..].iter().all(|&b| b == 9));
+    assert_eq!(write(&record, &mut buffer[..4573]), Err(10));
+    assert_eq!(record.add_code(CodePair { old: 16, current: MAX_CONSTANT }), Err(19));
+    assert_eq!(record.add_code(CodePair { old: 0, current: MAX_CONSTANT }), Err(18));
     assert_eq!(record.add_join(&join), Err(16));
     assert_eq!(record.add_join(&JoinDependency { relation: 8, ..join }), Err(15));
     assert_eq!(record.add(record.dependencies[0]), Err(13));
@@ -657,4 +663,237 @@ fn sets_of_join_dependencies_are_not_empty() {
         assert_eq!(read(&bytes(&broken)), Err(15));
         assert_eq!(determined(&broken, R, 0), Err(14));
     }
+}
+
+const fn pair(old: u32, current: u32) -> CodePair {
+    CodePair { old, current }
+}
+
+/// The record with these pairs of codes more.
+fn coded(pairs: &[(u32, u32)], record: Record) -> Record {
+    pairs.iter().fold(record, |record, &(old, current)| record.add_code(pair(old, current)).unwrap())
+}
+
+const MOST: u32 = 2_147_483_647;
+
+#[test]
+fn pairs_of_codes_of_a_record() {
+    // The same current code twice is fine, and so are 0 and the largest code.
+    let held = coded(&[(0, 5), (7, 5), (9, MOST)], record(&[A_TO_B], &[q("v0", &[(R, "v0 0")])]));
+    assert_eq!(held.codes, [pair(0, 5), pair(7, 5), pair(9, MOST)]);
+    // Equal codes; codes that are too large; an old code that is old or current already; a current code that is old.
+    let equal_or_large = [pair(3, 3), pair(5, 5), pair(MOST + 1, 1), pair(1, MOST + 1), pair(u32::MAX, 1), pair(1, u32::MAX), pair(MOST + 1, MOST + 2)];
+    let held_already = [pair(0, 6), pair(0, 5), pair(7, 5), pair(5, 6), pair(MOST, 6), pair(5, MOST), pair(6, 0), pair(6, 7), pair(5, 0), pair(7, 0)];
+    for bad in equal_or_large.into_iter().chain(held_already) {
+        assert_eq!(held.add_code(bad), Err(18), "{bad:?}");
+        // The same for 14, wherever the pair stands.
+        for at in 0..=held.codes.len() {
+            let mut broken = held.clone();
+            broken.codes.insert(at, bad);
+            assert_eq!(broken.add_code(pair(20, 21)), Err(14));
+            assert_eq!(broken.add_code(bad), Err(14));
+            assert_eq!(determined(&broken, R, 1), Err(14));
+            assert_eq!(read(&bytes(&broken)), Err(18));
+        }
+    }
+    for good in [pair(6, 5), pair(1, 2), pair(8, MOST), pair(MOST - 1, 1)] {
+        let after = held.add_code(good).unwrap();
+        assert_eq!(after, Record { codes: [&held.codes[..], &[good]].concat(), ..held.clone() });
+        assert_eq!(read(&bytes(&after)), Ok(after));
+    }
+    assert_eq!(Record::default().add_code(pair(1, 1)), Err(14));
+    // 16 are held.
+    let sixteen: Vec<(u32, u32)> = (0..16).map(|k| (k, 100)).collect();
+    let mut full = coded(&sixteen, Record { codes: vec![], ..held.clone() });
+    assert_eq!(full.add_code(pair(16, 100)), Err(19));
+    for bad in [pair(16, 16), pair(3, 100), pair(100, 16), pair(16, 3), pair(16, MOST + 1)] {
+        assert_eq!(full.add_code(bad), Err(18));
+    }
+    full.codes.push(pair(16, 100));
+    assert_eq!(full.add_code(pair(17, 17)), Err(14));
+    assert_eq!(full.put(8, &Query::never(9)), Err(14));
+    assert_eq!(read(&bytes(&full)), Err(18));
+}
+
+#[test]
+fn pairs_of_codes_in_a_file() {
+    let held = coded(&[(0x01020304, 0), (7, 0x7FFFFFFF)], Record::open(&[2, 3]).unwrap());
+    let part = [2, 2, 3, 2, 4, 3, 2, 1, 0, 0, 0, 0, 7, 0, 0, 0, 255, 255, 255, 127];
+    assert_eq!(crate::file::parts(&bytes(&held)).unwrap()[0], part);
+    assert_eq!(read(&bytes(&held)), Ok(held.clone()));
+    assert_eq!(bytes(&Record::open(&[2, 3]).unwrap())[10..13], [2, 2, 3]);
+
+    let tail = |count: u8, pairs: &[(u32, u32)]| {
+        let words = pairs.iter().flat_map(|p| [p.0, p.1]);
+        [&[count][..], &words.flat_map(|x| x.to_le_bytes()).collect::<Vec<u8>>()].concat()
+    };
+    let fault = |widths: &[u8], tail: &[u8], part_1: &[u8], query: &[u8]| {
+        read(&crate::file::join(&[[widths, tail].concat(), part_1.to_vec(), query.to_vec()])).err()
+    };
+    let many: Vec<(u32, u32)> = (0..17).map(|k| (k, 20)).collect();
+    for good in [vec![], tail(1, &[(0, 1)]), tail(1, &[(MOST, 0)]), tail(2, &[(0, 1), (2, 1)]), tail(16, &many[..16])] {
+        assert_eq!(fault(&[1, 2], &good, &[0], &[0, 0]), None);
+        // Relations decide before, dependencies after what is good.
+        assert_eq!(fault(&[1, 9], &good, &[33], &[9]), Some(3));
+        assert_eq!(fault(&[1, 2], &good, &[33], &[9]), Some(4));
+    }
+    let bad = [
+        // A count outside 1 to 16, or another length.
+        tail(0, &[]), tail(0, &[(1, 2)]), tail(17, &many), tail(255, &many), tail(1, &[]), tail(1, &[(1, 2), (3, 4)]), tail(2, &[(1, 2)]),
+        tail(17, &many[..16]), tail(15, &many[..16]), vec![1, 1, 0, 0, 0, 2, 0, 0], vec![1, 1, 0, 0, 0, 2, 0, 0, 0, 0],
+        // Pairs.
+        tail(1, &[(0, 0)]), tail(1, &[(5, 5)]), tail(1, &[(MOST + 1, 0)]), tail(1, &[(0, MOST + 1)]), tail(2, &[(1, 2), (1, 3)]), tail(2, &[(1, 2), (1, 2)]),
+        tail(2, &[(1, 2), (2, 3)]), tail(2, &[(2, 3), (1, 2)]), tail(2, &[(1, 2), (2, 1)]), tail(3, &[(1, 2), (3, 4), (4, 5)]),
+        tail(16, &[&many[..15], &[(20, 21)]].concat()),
+    ];
+    for tail in bad {
+        assert_eq!(fault(&[1, 2], &tail, &[0], &[0, 0]), Some(18), "{tail:?}");
+        assert_eq!(fault(&[1, 2], &tail, &[33], &[0, 0]), Some(18));
+        assert_eq!(fault(&[1, 2], &tail, &[], &[0, 0]), Some(18));
+        assert_eq!(fault(&[1, 2], &tail, &[0, 0], &[9]), Some(18));
+        assert_eq!(fault(&[1, 0], &tail, &[0], &[0, 0]), Some(3));
+        assert_eq!(fault(&[1, 9], &tail, &[33], &[9]), Some(3));
+        assert_eq!(fault(&[0], &tail, &[0], &[0, 0]), Some(3));
+    }
+    // A part that is too short for the widths.
+    for part in [&[][..], &[1], &[2, 2], &[8, 1, 1, 1], &[255]] {
+        assert_eq!(fault(part, &[], &[0], &[0, 0]), Some(3));
+    }
+    assert_eq!(list(&crate::file::join(&[vec![1, 2, 0], vec![33]])), "refused 18\n");
+}
+
+#[test]
+fn stored_queries_keep_their_codes() {
+    let query = q("4 v0", &[(R, "v0 4"), (R, "v0 3")]);
+    let held = coded(&[(4, 3), (0, 7)], record(&[], &[]));
+    let after = held.put(2, &query).unwrap();
+    assert_eq!(after.places[2].as_ref(), Some(&query));
+    assert_eq!(coded(&[(9, 3)], after.clone()).places, after.places);
+    assert_eq!(read(&bytes(&after)).unwrap().places[2].as_ref(), Some(&query));
+    // A result of reduction has current codes; its source stays.
+    let (after, of) = reduce(&after, 2, 0).unwrap();
+    assert_eq!(after.places[2].as_ref(), Some(&query));
+    assert_eq!(after.places[0].as_ref(), Some(&of.result));
+    assert_eq!((of.result, of.count), (q("3 v0", &[(R, "v0 3")]), 0));
+    assert_eq!(list(&bytes(&after.drop_place(0).unwrap())), "place 2 rows 2 kept 1 replaced 0\nhead 3 v0\nrow 0 v0 3\nmap v0=v0\n");
+}
+
+#[test]
+fn reduction_reads_codes_first() {
+    let with = |pairs: &[_], deps: &[_], query: &Query| {
+        let before = coded(pairs, record(deps, &[query.clone()]));
+        let (after, of) = reduce(&before, 0, 1).unwrap();
+        assert_eq!(after.drop_place(1).unwrap(), before);
+        (of.result, of.count)
+    };
+    // What clashes may not when it is read, also through a common current code; what is different after it still does.
+    let clash = q("v0", &[(R, "v0 3"), (R, "v0 4")]);
+    for (pairs, stays) in [(&[(4, 3)][..], "v0 3"), (&[(3, 4)], "v0 4"), (&[(4, 0), (3, 0)], "v0 0")] {
+        assert_eq!(with(pairs, &[(R, 1, 1)], &clash), (q("v0", &[(R, stays)]), 0));
+    }
+    for pairs in [&[][..], &[(4, 5)], &[(3, 5), (4, 6)], &[(0, 3)]] {
+        assert_eq!(with(pairs, &[(R, 1, 1)], &clash), (Query::never(1), 0));
+    }
+    // The count is that of what is read.
+    let apart = q("v0 v1", &[(R, "3 v0"), (R, "4 v1")]);
+    assert_eq!(with(&[(4, 3)], &[(R, 1, 1)], &apart), (q("v0 v0", &[(R, "3 v0")]), 1));
+    assert_eq!(with(&[], &[(R, 1, 1)], &apart), (apart.clone(), 0));
+    // So is the order; a row goes to one that is equal as it is read.
+    assert_eq!(with(&[(5, 9)], &[], &q("v0", &[(R, "5 v0"), (R, "6 v0")])), (q("v0", &[(R, "6 v0"), (R, "9 v0")]), 0));
+    assert_eq!(with(&[(5, 9)], &[], &q("v0", &[(R, "v0 9"), (R, "v0 5"), (R, "v0 v1")])), (q("v0", &[(R, "v0 9")]), 0));
+    // Variables are no codes, and relations are none.
+    assert_eq!(with(&[(0, 1)], &[], &q("v0", &[(R, "v0 0")])), (q("v0", &[(R, "v0 1")]), 0));
+    // Never has nothing to read.
+    assert_eq!(with(&[(0, 1), (3, 2)], &[], &Query::never(3)), (Query::never(3), 0));
+}
+
+#[test]
+fn comparison_reads_both_queries() {
+    let (three, four) = (q("", &[(R, "3 v0")]), q("", &[(R, "4 v0")]));
+    let contained = |pairs: &[_], p: &Query, q: &Query| match compare(&coded(pairs, record(&[], &[p.clone(), q.clone()])), 0, 1) {
+        Ok(Verdict::Contained(mapping)) => Ok(mapping),
+        Ok(Verdict::NotContained(shown)) => Err(shown),
+        _ => panic!(),
+    };
+    for (p, q) in [(&three, &four), (&four, &three), (&four, &four)] {
+        for pairs in [&[(4, 3)][..], &[(3, 4)], &[(4, 0), (3, 0)]] {
+            assert!(contained(pairs, p, q).is_ok());
+        }
+    }
+    assert_eq!(contained(&[(4, 5)], &three, &four), Err(three.clone()));
+    assert_eq!(contained(&[(4, 5)], &four, &three), Err(q("", &[(R, "5 v0")])));
+    // The head counts.
+    let head = |text| q(text, &[(R, "v0 v0")]);
+    assert!(contained(&[(4, 3)], &head("3"), &head("4")).is_ok());
+    assert_eq!(contained(&[(4, 3)], &head("4"), &head("5")), Err(head("3")));
+    // Mappings have current codes, and 0 for a variable that is not there.
+    let mapping = contained(&[(4, 3), (0, 9)], &q("", &[(R, "4 0")]), &q("", &[(R, "v0 v1")])).unwrap();
+    assert_eq!(mapping[..3], [Constant(3), Constant(9), Constant(0)]);
+    // The first query is read before the chase; the second is read and not chased.
+    let clash = q("", &[(R, "v0 3"), (R, "v0 4")]);
+    let all = |pairs: &[_]| coded(pairs, record(&[(R, 1, 1)], &[clash.clone(), Query::never(0)]));
+    assert!(matches!(compare(&all(&[]), 0, 1), Ok(Verdict::ContainedAsNever)));
+    assert!(matches!(compare(&all(&[(4, 3)]), 0, 1), Ok(Verdict::NotContained(shown)) if shown == q("", &[(R, "v0 3"), (R, "v0 3")])));
+    // With a join dependency repeated rows go, as they are read.
+    let all = coded(&[(4, 3), (0, 2)], with_joins(&[], &[A_B], &[q("", &[(R, "v0 4"), (R, "v0 3"), (R, "0 4"), (R, "2 5")]), Query::never(0)]));
+    let due = q("", &[(R, "v0 3"), (R, "2 3"), (R, "2 5"), (R, "v0 5")]);
+    assert!(matches!(compare(&all, 0, 1), Ok(Verdict::NotContained(shown)) if shown == due));
+}
+
+#[test]
+fn checking_reads_images() {
+    let all = |pairs: &[_]| coded(pairs, record(&[], &[q("4", &[(R, "4 5"), (R, "v1 v1")]), q("3", &[(R, "v0 v1")])]));
+    let mapping = |images: &[Entry]| std::array::from_fn(|v| images.get(v).copied().unwrap_or(Constant(0)));
+    let yes = |pairs: &[_], images: &str| check(&all(pairs), 0, 1, &mapping(&es(images))).unwrap();
+    for images in ["4 5", "3 5", "v1 v1", "3 5 0"] {
+        assert!(yes(&[(4, 3), (0, 9)], images));
+        assert!(!yes(&[(4, 6)], images));
+    }
+    // An image of another variable is not read: 0 is due.
+    for images in ["3 5 9", "3 5 4", "9 5", "v4 v4", "5 3"] {
+        assert!(!yes(&[(4, 3), (0, 9)], images));
+    }
+    assert!(yes(&[(4, 3), (8, 0)], "4 5 0") && !yes(&[(4, 3), (8, 0)], "4 5 8"));
+    // Constants of both queries are read, and an image that is no entry of theirs.
+    assert!(yes(&[(4, 0), (3, 0), (6, 5)], "0 6") && yes(&[(4, 0), (3, 0), (6, 5)], "3 5"));
+    let large = mapping(&[Constant(u32::MAX), Variable(255)]);
+    assert_eq!(check(&all(&[(4, 3)]), 0, 1, &large), Ok(false));
+}
+
+#[test]
+fn testing_reads_the_database() {
+    let all = |pairs: &[_]| coded(pairs, with_joins(&[(R, 1, 1)], &[AB_AC], &[]));
+    let words = [0, 1, 3, 0, 1, 4];
+    assert_eq!(test(&all(&[]), &words), Ok(Tested::Breaks(0, 0, 1)));
+    assert_eq!(test(&all(&[(4, 3)]), &words), Ok(Tested::Obeys));
+    // Rows agree as they are read; positions are those of the rows as they arrive.
+    assert_eq!(test(&all(&[]), &[0, 3, 1, 0, 4, 1, 0, 4, 2]), Ok(Tested::Breaks(0, 1, 2)));
+    assert_eq!(test(&all(&[(4, 3)]), &[0, 3, 1, 0, 4, 1, 0, 4, 2]), Ok(Tested::Breaks(0, 0, 2)));
+    // A row that a join dependency asks for may be there with an old code.
+    let words = [1, 1, 2, 3, 1, 5, 4, 6, 1, 1, 2, 6, 1, 5, 4, 3];
+    assert_eq!(test(&all(&[]), &words), Ok(Tested::Obeys));
+    assert_eq!(test(&all(&[(5, 1)]), &words), Ok(Tested::Obeys));
+    assert_eq!(test(&all(&[(5, 1)]), &words[..12]), Ok(Tested::BreaksJoin(0, vec![1, 0])));
+    // The number of a relation is no code.
+    assert_eq!(test(&all(&[(0, 1), (2, 1)]), &[0, 0, 0, 1, 2, 2, 2]), Ok(Tested::Obeys));
+    assert_eq!(test(&all(&[(2, 0)]), &[2, 1, 1]), Err(9));
+    // Values beyond the constants are read as themselves.
+    assert_eq!(test(&all(&[(0, 1)]), &[0, MOST + 1, 0, 0, MOST + 1, 1]), Ok(Tested::Obeys));
+}
+
+#[test]
+fn evaluation_reads_query_and_database() {
+    let all = coded(&[(4, 3), (1, 9), (2, 0)], record(&[], &[q("v0", &[(R, "v0 4")]), q("1 v0 5", &[(R, "v0 v1"), (R, "2 v1")]), Query::never(1)]));
+    // As they are read: (9, 3), (0, 3), (5, 3), (0, 3), (9, 3).
+    let words = [0, 1, 3, 0, 2, 4, 0, 5, 3, 0, 0, 3, 0, 9, 3];
+    let mut buffer = [8; 4];
+    assert_eq!(evaluate(&all, 0, &words, &mut buffer), Ok(3));
+    assert_eq!(buffer, [0, 5, 9, 8]);
+    assert_eq!(evaluate(&all, 0, &words, &mut buffer[..2]), Err(10));
+    let mut buffer = [8; 10];
+    assert_eq!(evaluate(&all, 1, &words, &mut buffer), Ok(3));
+    assert_eq!(buffer, [9, 0, 5, 9, 5, 5, 9, 9, 5, 8]);
+    assert_eq!(evaluate(&all, 2, &words, &mut buffer), Ok(0));
+    // Relations are none: 2 is not read as 0.
+    assert_eq!(evaluate(&all, 0, &[2, 1, 1], &mut buffer), Err(9));
 }

@@ -29,11 +29,25 @@ pub fn parts(file: &[u8]) -> Result<Vec<&[u8]>, Refusal> {
     Ok(parts)
 }
 
-fn read_widths(part: &[u8]) -> Result<Vec<u8>, Refusal> {
-    match part.split_first() {
-        Some((&n, widths)) if n as usize == widths.len() && widths_are_sound(widths) => Ok(widths.to_vec()),
-        _ => Err(RELATIONS),
+/// The widths and the bytes past them.
+fn read_widths(part: &[u8]) -> Result<(Vec<u8>, &[u8]), Refusal> {
+    let Some((&n, rest)) = part.split_first() else { return Err(RELATIONS) };
+    if rest.len() < n as usize {
+        return Err(RELATIONS);
     }
+    let (widths, past) = rest.split_at(n as usize);
+    if widths_are_sound(widths) { Ok((widths.to_vec(), past)) } else { Err(RELATIONS) }
+}
+
+/// The pairs of codes: the bytes past the widths. Without bytes there are none.
+fn read_codes(past: &[u8]) -> Result<Vec<CodePair>, Refusal> {
+    let Some((&n, pairs)) = past.split_first() else { return Ok(vec![]) };
+    if n == 0 || pairs.len() != 8 * n as usize {
+        return Err(CODE);
+    }
+    let word = |bytes: &[u8]| u32::from_le_bytes(bytes.try_into().expect("four bytes"));
+    let all: Vec<CodePair> = pairs.chunks(8).map(|p| CodePair { old: word(&p[..4]), current: word(&p[4..]) }).collect();
+    if codes_are_sound(&all) { Ok(all) } else { Err(CODE) }
 }
 
 /// The functional dependencies and the bytes past them.
@@ -131,7 +145,9 @@ pub fn read_query(widths: &[u8], part: &[u8]) -> Result<Query, Refusal> {
 pub fn read(file: &[u8]) -> Result<Record, Refusal> {
     let parts = parts(file)?;
     let mut record = Record::default();
-    record.widths = read_widths(parts[0])?;
+    let (widths, past) = read_widths(parts[0])?;
+    record.widths = widths;
+    record.codes = read_codes(past)?;
     let (dependencies, past) = read_dependencies(&record.widths, parts[1])?;
     record.dependencies = dependencies;
     record.joins = read_joins(&record.widths, past)?;
@@ -171,6 +187,19 @@ pub fn query_bytes(query: &Query) -> Vec<u8> {
     out
 }
 
+/// Pairs of codes as they follow the widths: none are no bytes.
+pub fn codes_bytes(codes: &[CodePair]) -> Vec<u8> {
+    if codes.is_empty() {
+        return vec![];
+    }
+    let mut out = vec![codes.len() as u8];
+    for p in codes {
+        out.extend(p.old.to_le_bytes());
+        out.extend(p.current.to_le_bytes());
+    }
+    out
+}
+
 /// Join dependencies as they follow the functional ones: none are no bytes.
 pub fn joins_bytes(joins: &[JoinDependency]) -> Vec<u8> {
     if joins.is_empty() {
@@ -188,6 +217,7 @@ pub fn joins_bytes(joins: &[JoinDependency]) -> Vec<u8> {
 pub fn record_parts(record: &Record) -> Vec<Vec<u8>> {
     let mut widths = vec![record.widths.len() as u8];
     widths.extend(&record.widths);
+    widths.extend(codes_bytes(&record.codes));
     let mut dependencies = vec![record.dependencies.len() as u8];
     for d in &record.dependencies {
         dependencies.extend([d.relation, d.left, d.right]);

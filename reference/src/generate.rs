@@ -1,7 +1,8 @@
 //! Seeded records, queries and files: sound ones of many shapes, and damaged files.
 
 use crate::closure::determined;
-use crate::file::{bytes, join, joins_bytes, query_bytes, record_parts};
+use crate::codes::{read_number, read_query};
+use crate::file::{bytes, codes_bytes, join, joins_bytes, query_bytes, record_parts};
 use crate::random::Random;
 use crate::record::*;
 use crate::record::Entry::{Constant, Variable};
@@ -149,17 +150,96 @@ pub fn renumber(r: &mut Random, query: &Query) -> Query {
     })
 }
 
-/// The record with other constants in its queries: some of one, two, three and four bytes, that come in another order by their first bytes or as text.
+/// The record with other constants in its queries: some of one, two, three and four bytes, that come in another order by their first bytes or as text. Where it
+/// has pairs of codes it gets others.
 pub fn with_long_constants(r: &mut Random, record: &Record) -> Record {
     let mut numbers = [0, 2, 9, 10, 99, 255, 256, 257, 1000, 65_535, 65_536, 16_777_216, MAX_CONSTANT];
     r.shuffle(&mut numbers);
-    let mut out = record.clone();
+    let mut out = Record { codes: vec![], ..record.clone() };
     for query in out.places.iter_mut().flatten() {
-        *query = substitute(query, |e| match e {
+        *query = substitute(&read_query(&record.codes, query), |e| match e {
             Constant(c) => Constant(numbers.get(c as usize).copied().unwrap_or(c)),
             v => v,
         });
     }
+    if record.codes.is_empty() { out } else { with_codes(r, out) }
+}
+
+/// So many pairs of codes, by preference of these numbers. 0 is often among the old codes or the current ones, and pairs often share a current code.
+pub fn codes(r: &mut Random, numbers: &[u32], n: usize) -> Vec<CodePair> {
+    let mut near = numbers.to_vec();
+    let few = [0, 1, 2, 3, 4, 7, 255, 256, 65_536, MAX_CONSTANT - 1, MAX_CONSTANT];
+    near.extend((0..r.between(2, 5)).map(|_| *r.pick(&few)));
+    while near.len() < 60 {
+        near.push(if r.percent(50) { r.below(100) as u32 } else { (r.next() % (1 << 31)) as u32 });
+    }
+    let mut all: Vec<u32> = vec![];
+    near.into_iter().for_each(|x| if !all.contains(&x) { all.push(x) });
+    let first = (n + 4).min(all.len());
+    r.shuffle(&mut all[..first]);
+    let zero = r.below(100);
+    all.retain(|&x| x != 0 || zero >= 70);
+    match zero {
+        0..=39 => all.insert(r.below(n.max(1)), 0),
+        40..=69 => all.insert(n, 0),
+        _ => {}
+    }
+    let (old, rest) = all.split_at(n);
+    let current = &rest[..*r.pick(&[1, 1, 2, 3, 5])];
+    old.iter().map(|&old| CodePair { old, current: *r.pick(current) }).collect()
+}
+
+/// A number that is read as this one is: now and then an old code in its stead.
+pub fn alias(r: &mut Random, codes: &[CodePair], n: u32, chance: usize) -> u32 {
+    let n = read_number(codes, n);
+    let old: Vec<u32> = codes.iter().filter(|p| p.current == n).map(|p| p.old).collect();
+    if old.is_empty() || !r.percent(chance) { n } else { *r.pick(&old) }
+}
+
+/// The query with other constants that are read as its constants are.
+pub fn aliased(r: &mut Random, codes: &[CodePair], query: &Query, chance: usize) -> Query {
+    let mut out = query.clone();
+    for e in out.head.iter_mut().chain(out.rows.iter_mut().flat_map(|row| &mut row.entries)) {
+        if let Constant(c) = *e {
+            *e = Constant(alias(r, codes, c, chance));
+        }
+    }
+    out
+}
+
+/// The record with pairs of codes, for which constants of its queries are old and current ones: some that were different are read as one now, and of others
+/// old codes take the place. Now and then such a constant stands where one variable stood in several rows.
+pub fn with_codes(r: &mut Random, mut record: Record) -> Record {
+    let mut constants: Vec<u32> = vec![];
+    for query in record.places.iter().flatten() {
+        let all = query.head.iter().chain(query.rows.iter().flat_map(|row| &row.entries));
+        constants.extend(all.filter_map(|e| if let Constant(c) = e { Some(*c) } else { None }));
+    }
+    constants.sort();
+    constants.dedup();
+    r.shuffle(&mut constants);
+    constants.truncate(8);
+    let few = r.between(1, 6);
+    let n = *r.pick(&[few, few, few, few, few, few, 15, MAX_CODES]);
+    record.codes = codes(r, &constants, n);
+    let chance = *r.pick(&[30, 70, 70, 100]);
+    for query in record.places.iter_mut().flatten() {
+        for _ in 0..*r.pick(&[0, 0, 1, 2]) {
+            let variables = query.variables();
+            if !variables.is_empty() {
+                let (v, current) = (*r.pick(&variables), r.pick(&record.codes).current);
+                *query = substitute(query, |e| if e == Variable(v) { Constant(current) } else { e });
+            }
+        }
+        *query = aliased(r, &record.codes, query, chance);
+    }
+    record
+}
+
+/// In three of ten records there are pairs of codes.
+fn with_some_codes(r: &mut Random, record: Record) -> Record {
+    let out = if r.percent(30) { with_codes(r, record) } else { record };
+    assert!(out.is_sound());
     out
 }
 
@@ -546,8 +626,7 @@ pub fn record_with_joins(r: &mut Random) -> Record {
         r.shuffle(&mut out.joins);
     }
     settle(r, &mut out);
-    assert!(out.is_sound());
-    out
+    with_some_codes(r, out)
 }
 
 /// A sound record of one of many shapes.
@@ -560,10 +639,10 @@ pub fn record(r: &mut Random) -> Record {
         let n = r.between(1, MAX_JOINS);
         out.joins = joins(r, &out.widths, n);
     }
-    out
+    with_some_codes(r, out)
 }
 
-/// A sound record without join dependencies.
+/// A sound record without join dependencies and pairs of codes.
 fn functional_record(r: &mut Random) -> Record {
     let mut out = Record::default();
     match r.below(14) {
@@ -687,7 +766,6 @@ fn functional_record(r: &mut Random) -> Record {
         }
     }
     settle(r, &mut out);
-    assert!(out.is_sound());
     out
 }
 
@@ -724,8 +802,8 @@ fn damage_part(r: &mut Random, record: &Record, parts: &mut [Vec<u8>], k: usize)
         match r.below(5) {
             0 => parts[0][0] = *r.pick(&[0, 9, 255, n as u8 + 1, n as u8 - 1]),
             1 => { let at = r.between(1, n); parts[0][at] = *r.pick(&[0, 9, 255]) }
-            2 => parts[0] = vec![0],
-            3 => parts[0] = [vec![9], vec![1; 9]].concat(),
+            2 => { parts[0].splice(..=n, [0]); }
+            3 => { parts[0].splice(..=n, [9, 1, 1, 1, 1, 1, 1, 1, 1, 1]); }
             _ => { let at = r.between(1, n); parts[0][at] = r.between(1, 8) as u8 }
         }
     } else if k == 1 {
@@ -893,6 +971,100 @@ fn damaged_tail(r: &mut Random, record: &Record) -> Vec<u8> {
     out
 }
 
+/// A pair that is never held, or two of which the second is not held beside the first.
+pub fn bad_pairs(r: &mut Random) -> Vec<CodePair> {
+    let mut number = |not: &[u32]| loop {
+        let n = *r.pick(&[0, 0, 1, 2, 3, 4, 9, 256, MAX_CONSTANT]);
+        if !not.contains(&n) {
+            return n;
+        }
+    };
+    let a = number(&[]);
+    let b = number(&[a]);
+    let c = number(&[a, b]);
+    let pair = |old, current| CodePair { old, current };
+    let high = *r.pick(&[MAX_CONSTANT + 1, MAX_CONSTANT + 1, u32::MAX, 1 << 31 | b]);
+    match r.below(9) {
+        0 => vec![pair(a, a)],
+        1 => vec![pair(high, a)],
+        2 => vec![pair(a, high)],
+        3 => vec![pair(high, high + (high != u32::MAX) as u32)],
+        // Old twice.
+        4 => vec![pair(a, b), pair(a, c)],
+        5 => vec![pair(a, b), pair(a, b)],
+        // A chain, whichever end comes first, and a ring.
+        6 => vec![pair(a, b), pair(b, c)],
+        7 => vec![pair(b, c), pair(a, b)],
+        _ => vec![pair(a, b), pair(b, a)],
+    }
+}
+
+/// Bytes past the widths that are wrong, or just right.
+fn damaged_codes(r: &mut Random, record: &Record) -> Vec<u8> {
+    let n = r.between(1, MAX_CODES - 1);
+    let mut all = if record.codes.is_empty() || r.percent(40) { codes(r, &[], n) } else { record.codes.clone() };
+    match r.below(12) {
+        0..=5 => {
+            // They come before or after the others, from which they keep apart.
+            let bad = bad_pairs(r);
+            let near: Vec<u32> = bad.iter().flat_map(|p| [p.old, p.current]).collect();
+            all.retain(|p| !near.contains(&p.old) && !near.contains(&p.current));
+            for p in bad {
+                all.insert(r.below(all.len().min(14) + 1), p);
+            }
+            all.truncate(MAX_CODES);
+            if r.percent(80) {
+                return codes_bytes(&all);
+            }
+        }
+        6 => {
+            // One with a code of another.
+            let (p, k, at) = (*r.pick(&all), r.below(all.len()), r.below(4));
+            let (x, q) = (if at & 1 == 0 { p.old } else { p.current }, &mut all[k]);
+            if at & 2 == 0 { q.old = x } else { q.current = x }
+        }
+        7 => {
+            // 16 and 17, all good.
+            let all = codes(r, &[], 17);
+            return codes_bytes(&all[..r.between(16, 17)]);
+        }
+        8 | 9 => {
+            // Counts with pairs of zeros, or without any.
+            let (count, zeros) = *r.pick(&[(0, 0), (0, 0), (0, 0), (0, 8), (1, 0), (1, 7), (1, 8), (16, 128)]);
+            return [&[count][..], &vec![0; zeros]].concat();
+        }
+        _ => {}
+    }
+    let mut out = codes_bytes(&all);
+    match r.below(13) {
+        0 => out.push(*r.pick(&[0, 1, 2, 255])),
+        1 => { out.pop(); }
+        2 => { let cut = r.below(out.len() + 1); out.truncate(cut); }
+        3 => out[0] = *r.pick(&[0, 1, 16, 17, 255, out[0] + 1, out[0] - 1]),
+        4 => out.extend([0; 8]),
+        5 => out.truncate(out.len() - 8),
+        6 => {
+            let k = 1 + r.below(out.len() - 1);
+            out[k] ^= 128 >> r.below(8);
+        }
+        _ => {}
+    }
+    out
+}
+
+/// A file with other bytes past the widths, and now and then a fault in the widths, the dependencies or another part.
+pub fn with_damaged_codes(r: &mut Random, record: &Record) -> Vec<u8> {
+    let bare = Record { codes: vec![], ..record.clone() };
+    let mut parts = record_parts(&bare);
+    if r.percent(45) {
+        let any = r.below(parts.len());
+        let k = *r.pick(&[0, 1, 1, any]);
+        damage_part(r, &bare, &mut parts, k);
+    }
+    parts[0].extend(damaged_codes(r, record));
+    join(&parts)
+}
+
 /// A file that is damaged, or just inside a limit.
 pub fn damaged(r: &mut Random) -> Vec<u8> {
     let record = record(r);
@@ -904,7 +1076,7 @@ pub fn damaged(r: &mut Random) -> Vec<u8> {
         let new = *r.pick(&[old.wrapping_add(1), old.wrapping_sub(1), 0, 65_535, old ^ 256, old.rotate_left(8)]);
         file[at..at + 2].copy_from_slice(&new.to_le_bytes());
     };
-    match r.below(23) {
+    match r.below(28) {
         0 => {
             for _ in 0..r.between(1, 3) {
                 let at = r.below(file.len());
@@ -1027,6 +1199,7 @@ pub fn damaged(r: &mut Random) -> Vec<u8> {
             fresh[1].extend(damaged_tail(r, &record));
             file = join(&fresh);
         }
+        19..=23 => file = with_damaged_codes(r, &record),
         _ => {
             // One to three broken parts: the first in file order decides.
             for _ in 0..*r.pick(&[1, 1, 2, 3]) {
@@ -1077,6 +1250,8 @@ mod tests {
         let mut damaged_but_sound = 0;
         // Dependencies, those with an empty left set, records that have one, and the dependency of zeros alone, first or last.
         let (mut dependencies, mut empty_left, mut records, mut zeros) = (0, 0, 0, [0; 3]);
+        // Records without and with pairs of codes; of those 0 as an old code, 0 as a current one, a current code twice, 16 pairs, a query that reading changes.
+        let (mut plain, mut coded, mut kinds) = (0, 0, [0; 5]);
         for k in 0..3000 {
             let file = file(1, k);
             assert_eq!(file, super::file(1, k));
@@ -1092,6 +1267,18 @@ mod tests {
                     for (n, is) in zeros.iter_mut().zip(stand_of_zeros(&record)) {
                         *n += is as usize;
                     }
+                    let codes = &record.codes;
+                    if codes.is_empty() { plain += 1 } else { coded += 1 }
+                    let of = [
+                        codes.iter().any(|p| p.old == 0),
+                        codes.iter().any(|p| p.current == 0),
+                        (0..codes.len()).any(|k| codes[..k].iter().any(|p| p.current == codes[k].current)),
+                        codes.len() == MAX_CODES,
+                        record.places.iter().flatten().any(|q| read_query(codes, q) != *q),
+                    ];
+                    for (n, is) in kinds.iter_mut().zip(of) {
+                        *n += is as usize;
+                    }
                 }
                 Err(n) => {
                     assert!(k % 5 >= 3);
@@ -1100,12 +1287,14 @@ mod tests {
             }
             assert_eq!(judge(&file, list(&file).as_bytes()), Ok(()));
         }
-        for n in [1, 2, 3, 4, 5, 6, 15] {
+        for n in [1, 2, 3, 4, 5, 6, 15, 18] {
             assert!(refusals[&n] > 20, "{refusals:?}");
         }
         assert!(damaged_but_sound > 20);
         assert!(empty_left * 20 > dependencies && empty_left * 6 < dependencies, "{empty_left} of {dependencies}");
         assert!(records > 450 && records < 900, "{records}");
         assert!(zeros.iter().all(|&n| n > 50), "{zeros:?}");
+        assert!(coded * 2 < plain && coded * 4 > plain, "{coded} {plain}");
+        assert!(kinds.iter().all(|&n| n * 10 > coded) && kinds[4] * 2 > coded, "{kinds:?} of {coded}");
     }
 }

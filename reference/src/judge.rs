@@ -1,5 +1,6 @@
 //! Decides whether another engine's listing of a file is right. Nothing in it is free but the images of the map lines.
 
+use crate::codes::read_query;
 use crate::file::read;
 use crate::listing::{cut, list, place_text};
 use crate::mapping::{is_mapping, Mapping};
@@ -39,8 +40,9 @@ fn map_line(line: &str, variables: &[u8]) -> Option<Mapping> {
 }
 
 /// Takes the lines of a place from the listing.
-fn judge_place<'a>(place: usize, dependencies: &[Dependency], source: &Query, lines: &mut impl Iterator<Item = &'a str>) -> Result<(), String> {
-    let reduced = reduce_query(dependencies, source);
+fn judge_place<'a>(place: usize, record: &Record, source: &Query, lines: &mut impl Iterator<Item = &'a str>) -> Result<(), String> {
+    let source = &read_query(&record.codes, source);
+    let reduced = reduce_query(&record.dependencies, source);
     let due = place_text(place, source, &reduced.result, reduced.count, reduced.mapping.as_ref());
     for due in due.lines() {
         let line = lines.next().ok_or(format!("place {place}: {due:?} is missing"))?;
@@ -73,7 +75,7 @@ pub fn judge(input: &[u8], listing: &[u8]) -> Result<(), String> {
     let mut lines = text.split_terminator('\n');
     for (p, place) in record.places.iter().enumerate() {
         if let Some(source) = place {
-            judge_place(p, &record.dependencies, source, &mut lines)?;
+            judge_place(p, &record, source, &mut lines)?;
         }
     }
     match lines.next() {

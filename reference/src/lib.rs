@@ -1,6 +1,6 @@
 //! A second implementation of docs/SPECIFICATION.md, to run the engine against.
 //! Layers, each using only those above it:
-//! record, file, joins, chase, mapping, reduction, comparison, closure, database, listing.
+//! record, file, joins, chase, mapping, codes, reduction, comparison, closure, database, listing.
 //! Then what tests another engine: judge, random, generate, vectors.
 
 pub mod record;
@@ -8,6 +8,7 @@ pub mod file;
 pub mod joins;
 pub mod chase;
 pub mod mapping;
+pub mod codes;
 pub mod reduction;
 pub mod comparison;
 pub mod closure;
@@ -25,3 +26,5 @@ mod examples;
 mod crosscheck;
 #[cfg(test)]
 mod mistakes;
+#[cfg(test)]
+mod code_mistakes;

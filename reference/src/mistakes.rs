@@ -3,8 +3,9 @@
 
 use crate::chase::{chase, survivor};
 use crate::closure::determined;
+use crate::codes::{queries, read_query};
 use crate::comparison::{compare, Verdict};
-use crate::database::{facts, first_broken, first_broken_join, test, words, Fact, Tested};
+use crate::database::{facts, first_broken, first_broken_join, read_facts, test, words, Fact, Tested};
 use crate::file::{bytes, parts, read};
 use crate::generate::{file, record, record_with_joins, ZEROS};
 use crate::judge::judge;
@@ -274,7 +275,8 @@ fn wrong_core(m: Mistake, query: &Query) -> Query {
 fn wrong_list(m: Mistake, record: &Record) -> String {
     let mut text = String::new();
     for (p, place) in record.places.iter().enumerate() {
-        let Some(source) = place else { continue };
+        let Some(stored) = place else { continue };
+        let source = &read_query(&record.codes, stored);
         let (chased, count) = wrong_chase(m, &record.dependencies, source);
         let result = if m == AlwaysNever { Query::never(source.head_length) } else { wrong_core(m, &chased) };
         if result.is_never() {
@@ -320,8 +322,8 @@ fn reductions_show_up_mistakes() {
     let queries: Vec<Query> = (0..1000)
         .filter_map(|_| {
             let (record, source, _) = any_reduction(&mut r);
-            let [query] = record.filled([source]).ok()?;
-            Some(chase(&record.dependencies, query).query)
+            let [query] = queries(&record, [source]).ok()?;
+            Some(chase(&record.dependencies, &query).query)
         })
         .collect();
     let wrong = |m| queries.iter().filter(|q| wrong_core(m, q) != core(q)).count();
@@ -434,10 +436,10 @@ fn wrong_tail(m: JoinMistake, widths: &[u8], tail: &[u8]) -> Option<()> {
 
 fn wrong_read(m: JoinMistake, file: &[u8]) -> Result<(), Refusal> {
     match read(file).map(|_| ()) {
-        Err(n) if n < 4 => Err(n),
+        Err(n) if n < 4 || n == 18 => Err(n),
         right => {
             let parts = parts(file).expect("a directory");
-            match wrong_part_1(m, &parts[0][1..], parts[1]) {
+            match wrong_part_1(m, &parts[0][1..=parts[0][0] as usize], parts[1]) {
                 Some(n) => Err(n),
                 // Whatever the other parts are, the answer is wrong already if part 1 decided.
                 None => right.map_err(|n| if n == 4 || n == 15 { 0 } else { n }),
@@ -556,16 +558,16 @@ fn right_compare(record: &Record, p: u8, q: u8) -> Compared {
 
 fn wrong_compare(m: JoinMistake, record: &Record, p: u8, q: u8) -> Compared {
     if m == OverflowFirst {
-        let [first] = record.filled([p])?;
-        wrong_join_chase(m, record, first)?;
+        let [first] = queries(record, [p])?;
+        wrong_join_chase(m, record, &first)?;
     }
-    let [of_p, of_q] = record.filled([p, q])?;
+    let [of_p, of_q] = queries(record, [p, q])?;
     if of_p.head_length != of_q.head_length {
         return Err(8);
     }
     let (of_p, of_q) = match m {
-        SecondQueryChased => (Ok(of_p.clone()), wrong_join_chase(m, record, of_q)?),
-        _ => (wrong_join_chase(m, record, of_p), of_q.clone()),
+        SecondQueryChased => (Ok(of_p), wrong_join_chase(m, record, &of_q)?),
+        _ => (wrong_join_chase(m, record, &of_p), of_q),
     };
     if m == OverflowAfterTheMapping && of_p.is_err() && of_q.is_never() {
         return Ok((0, None));
@@ -581,6 +583,7 @@ fn wrong_compare(m: JoinMistake, record: &Record, p: u8, q: u8) -> Compared {
 }
 
 fn wrong_test(m: JoinMistake, record: &Record, facts: &[Fact]) -> Tested {
+    let facts = &read_facts(&record.codes, facts);
     let rows: Vec<(u8, &[u32])> = facts.iter().map(|f| (f.relation, &f.values[..])).collect();
     let functional = first_broken(&record.dependencies, facts).map(|(k, i, j)| Tested::Breaks(k, i, j));
     let broken = looked_at(m, &record.joins).into_iter().find_map(|(k, j)| Some((k, j.relation, wrong_choice(m, j, &rows)?.0)));
@@ -598,11 +601,16 @@ fn wrong_test(m: JoinMistake, record: &Record, facts: &[Fact]) -> Tested {
     first.unwrap_or(Tested::Obeys)
 }
 
-fn each_is_shown_up<M: Copy + std::fmt::Debug>(none: M, all: &[M], wrong: impl Fn(M) -> usize) {
+pub fn each_is_shown_up<M: Copy + std::fmt::Debug>(none: M, all: &[M], wrong: impl Fn(M) -> usize) {
+    each_is_shown_up_by(3, none, all, wrong);
+}
+
+/// By so many inputs at least.
+pub fn each_is_shown_up_by<M: Copy + std::fmt::Debug>(least: usize, none: M, all: &[M], wrong: impl Fn(M) -> usize) {
     assert_eq!(wrong(none), 0);
     let found: Vec<(M, usize)> = all.iter().map(|&m| (m, wrong(m))).collect();
     println!("{found:?}");
-    assert!(found.iter().all(|&(_, n)| n >= 3), "{found:?}");
+    assert!(found.iter().all(|&(_, n)| n >= least), "{found:?}");
 }
 
 #[test]
@@ -756,11 +764,11 @@ fn wrong_empty_chase(m: EmptyMistake, record: &Record, source: &Query) -> (Query
 fn wrong_file_list(m: EmptyMistake, file: &[u8]) -> String {
     let file = cut(file);
     let right = read(file);
-    if matches!(right, Err(1..=3)) {
+    if matches!(right, Err(1..=3 | 18)) {
         return list(file);
     }
     let parts = parts(file).expect("a directory");
-    let (widths, part) = (&parts[0][1..], parts[1]);
+    let (widths, part) = (&parts[0][1..=parts[0][0] as usize], parts[1]);
     let n = *part.first().unwrap_or(&255) as usize;
     let all_there = n <= MAX_DEPENDENCIES && part.len() > 3 * n;
     let passes = all_there && part[1..1 + 3 * n].chunks(3).all(|d| accepted(m, widths, Dependency { relation: d[0], left: d[1], right: d[2] }));
@@ -772,7 +780,8 @@ fn wrong_file_list(m: EmptyMistake, file: &[u8]) -> String {
         Ok(record) => {
             let mut text = String::new();
             for (p, place) in record.places.iter().enumerate() {
-                let Some(source) = place else { continue };
+                let Some(stored) = place else { continue };
+                let source = &read_query(&record.codes, stored);
                 let (chased, count) = wrong_empty_chase(m, &record, source);
                 let result = core(&chased);
                 let mapping = find(source, &result).unwrap_or([Constant(0); VARIABLES]);
@@ -784,6 +793,7 @@ fn wrong_file_list(m: EmptyMistake, file: &[u8]) -> String {
 }
 
 fn wrong_empty_test(m: EmptyMistake, record: &Record, facts: &[Fact]) -> Tested {
+    let facts = &read_facts(&record.codes, facts);
     let broken = |d: &Dependency| {
         let rows: Vec<usize> = (0..facts.len()).filter(|&i| asked_about(m, d, facts[i].relation, facts[i].values.len())).collect();
         let value = |i: usize| facts[i].values[d.right as usize];
@@ -835,9 +845,9 @@ fn reductions_show_up_mistakes_with_empty_left_sets() {
     let mut r = Random::new(24);
     let all: Vec<(Record, u8)> = (0..1000).map(|_| any_reduction(&mut r)).map(|(x, source, _)| (x, source)).collect();
     let wrong = |m, x: &Record, source: u8| {
-        let Ok([query]) = x.filled([source]) else { return false };
-        let (chased, count) = wrong_empty_chase(m, x, query);
-        let right = chase(&x.dependencies, query);
+        let Ok([query]) = queries(x, [source]) else { return false };
+        let (chased, count) = wrong_empty_chase(m, x, &query);
+        let right = chase(&x.dependencies, &query);
         (core(&chased), count) != (core(&right.query), right.count)
     };
     each_is_shown_up(NoneAtAll, &OF_THE_CHASE, |m| all.iter().filter(|(x, source)| wrong(m, x, *source)).count());

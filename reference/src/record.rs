@@ -1,9 +1,10 @@
-//! The record of tables, dependencies and saved queries, its rule, and the calls that change it.
+//! The record of tables, pairs of codes, dependencies and saved queries, its rule, and the calls that change it.
 
 pub const MAX_RELATIONS: usize = 8;
 pub const MAX_COLUMNS: usize = 8;
 pub const MAX_DEPENDENCIES: usize = 32;
 pub const MAX_JOINS: usize = 4;
+pub const MAX_CODES: usize = 16;
 pub const PLACES: usize = 8;
 pub const MAX_HEAD: usize = 8;
 pub const MAX_ROWS: usize = 12;
@@ -31,6 +32,8 @@ pub const BROKEN: Refusal = 14;
 pub const JOIN: Refusal = 15;
 pub const FULL_OF_JOINS: Refusal = 16;
 pub const OVERFLOW: Refusal = 17;
+pub const CODE: Refusal = 18;
+pub const FULL_OF_CODES: Refusal = 19;
 
 /// Constants come before variables, each by number.
 #[derive(Clone, Copy, PartialEq, Eq, PartialOrd, Ord, Hash, Debug)]
@@ -162,6 +165,28 @@ pub fn set_is_sound(widths: &[u8], relation: u8, set: u8) -> bool {
     }
 }
 
+/// A constant that was given another number: the old code is read as the current one.
+#[derive(Clone, Copy, PartialEq, Eq, Debug)]
+pub struct CodePair {
+    pub old: u32,
+    pub current: u32,
+}
+
+impl CodePair {
+    /// Whether it may be held beside others: two different codes, of which the old one stands in no other pair, and the current one is old in none.
+    pub fn is_sound(self, others: &[CodePair]) -> bool {
+        self.old != self.current
+            && self.old <= MAX_CONSTANT
+            && self.current <= MAX_CONSTANT
+            && others.iter().all(|p| self.old != p.old && self.old != p.current && self.current != p.old)
+    }
+}
+
+/// At most 16 pairs, each of which may be held beside those before it.
+pub fn codes_are_sound(codes: &[CodePair]) -> bool {
+    codes.len() <= MAX_CODES && (0..codes.len()).all(|k| codes[k].is_sound(&codes[..k]))
+}
+
 pub fn widths_are_sound(widths: &[u8]) -> bool {
     (1..=MAX_RELATIONS).contains(&widths.len())
         && widths.iter().all(|&w| (1..=MAX_COLUMNS).contains(&(w as usize)))
@@ -170,6 +195,7 @@ pub fn widths_are_sound(widths: &[u8]) -> bool {
 #[derive(Clone, PartialEq, Eq, Debug, Default)]
 pub struct Record {
     pub widths: Vec<u8>,
+    pub codes: Vec<CodePair>,
     pub dependencies: Vec<Dependency>,
     pub joins: Vec<JoinDependency>,
     pub places: [Option<Query>; PLACES],
@@ -179,6 +205,7 @@ impl Record {
     /// The rule of "The record"; what breaks it is refused with 14.
     pub fn is_sound(&self) -> bool {
         widths_are_sound(&self.widths)
+            && codes_are_sound(&self.codes)
             && self.dependencies.len() <= MAX_DEPENDENCIES
             && self.dependencies.iter().all(|d| d.is_sound(&self.widths))
             && self.joins.len() <= MAX_JOINS
@@ -190,7 +217,7 @@ impl Record {
         if self.is_sound() { Ok(()) } else { Err(BROKEN) }
     }
 
-    /// The queries of places to be read: 14, then 7 for any of them, then 11 for any of them.
+    /// The queries of places to be read, with the codes that they were put in with: 14, then 7 for any of them, then 11 for any of them.
     pub fn filled<const N: usize>(&self, places: [u8; N]) -> Result<[&Query; N], Refusal> {
         self.sound()?;
         if places.iter().any(|&p| p as usize >= PLACES) {
@@ -207,6 +234,19 @@ impl Record {
             return Err(RELATIONS);
         }
         Ok(Record { widths: widths.to_vec(), ..Record::default() })
+    }
+
+    pub fn add_code(&self, pair: CodePair) -> Result<Record, Refusal> {
+        self.sound()?;
+        if !pair.is_sound(&self.codes) {
+            return Err(CODE);
+        }
+        if self.codes.len() == MAX_CODES {
+            return Err(FULL_OF_CODES);
+        }
+        let mut after = self.clone();
+        after.codes.push(pair);
+        Ok(after)
     }
 
     pub fn add(&self, dependency: Dependency) -> Result<Record, Refusal> {

@@ -1,6 +1,7 @@
 //! Reduction: the chased query without the rows it can do without, sorted.
 
 use crate::chase::chase;
+use crate::codes::queries;
 use crate::mapping::{find, Mapping};
 use crate::record::*;
 
@@ -8,7 +9,7 @@ pub struct Reduced {
     pub result: Query,
     /// Replacements the chase made.
     pub count: usize,
-    /// From the source query to the result; none when the result is never.
+    /// From the source query, as it is read, to the result; none when the result is never.
     pub mapping: Option<Mapping>,
 }
 
@@ -43,11 +44,11 @@ pub fn reduce(record: &Record, source: u8, target: u8) -> Result<(Record, Reduce
     if source as usize >= PLACES || target as usize >= PLACES {
         return Err(PLACE);
     }
-    let [query] = record.filled([source])?;
+    let [query] = queries(record, [source])?;
     if record.places[target as usize].is_some() {
         return Err(FILLED);
     }
-    let reduced = reduce_query(&record.dependencies, query);
+    let reduced = reduce_query(&record.dependencies, &query);
     let mut after = record.clone();
     after.places[target as usize] = Some(reduced.result.clone());
     Ok((after, reduced))

@@ -2,8 +2,9 @@
 
 use crate::chase::{chase, chase_with_joins};
 use crate::closure::determined;
+use crate::codes::{queries, read_number, read_query};
 use crate::comparison::{check, compare, Verdict};
-use crate::database::{answers_within, evaluate, facts, first_broken, first_broken_join, test, words, Fact, Tested};
+use crate::database::{answers_within, evaluate, facts, first_broken, first_broken_join, read_facts, test, words, Fact, Tested};
 use crate::file::{bytes, query_bytes, read, write};
 use crate::generate;
 use crate::mapping::{find, Mapping};
@@ -58,8 +59,8 @@ impl Line {
     }
 }
 
-pub const CALLS: [&str; 14] = [
-    "read", "write", "open", "add", "put", "drop", "reduce", "compare", "check", "determined", "test", "evaluate", "chase", "add_join",
+pub const CALLS: [&str; 15] = [
+    "read", "write", "open", "add", "put", "drop", "reduce", "compare", "check", "determined", "test", "evaluate", "chase", "add_join", "add_code",
 ];
 
 /// A record of moderate size, now and then a large or the blank one.
@@ -105,7 +106,7 @@ pub fn any_reduction(r: &mut Random) -> (Record, u8, u8) {
     (record, source, target)
 }
 
-/// Up to 12 rows of the query that the chase with both kinds of dependencies gives.
+/// Up to 12 rows of the query, given as it is read, that the chase with both kinds of dependencies gives.
 fn some_chased(r: &mut Random, record: &Record, query: &Query) -> Query {
     let Ok(mut chased) = chase_with_joins(&record.dependencies, &record.joins, query) else { return query.clone() };
     if chased.rows.len() > MAX_ROWS || r.percent(50) {
@@ -115,12 +116,15 @@ fn some_chased(r: &mut Random, record: &Record, query: &Query) -> Query {
     chased
 }
 
-/// A record in which two places hold queries that have to do with each other. Every other one has join dependencies.
+/// A record in which two places hold queries that have to do with each other. Every other one has join dependencies, and nearly every other one pairs of codes.
 pub fn related_record(r: &mut Random) -> (Record, u8, u8) {
     loop {
         let mut record = if r.percent(50) { generate::record_with_joins(r) } else { filled_record(r) };
         if record == Record::default() {
             return (record, r.below(9) as u8, r.below(9) as u8);
+        }
+        if record.codes.is_empty() && r.percent(25) {
+            record = generate::with_codes(r, record);
         }
         if r.percent(15) {
             let (p, q) = (place(r, &record, true), place(r, &record, true));
@@ -128,7 +132,7 @@ pub fn related_record(r: &mut Random) -> (Record, u8, u8) {
         }
         let p = place(r, &record, true);
         let free: Vec<u8> = (0..8).filter(|&k| record.places[k as usize].is_none()).collect();
-        let Some(base) = record.places.get(p as usize).and_then(|q| q.clone()) else { continue };
+        let Some(base) = record.places.get(p as usize).and_then(|q| q.as_ref()).map(|q| read_query(&record.codes, q)) else { continue };
         if free.is_empty() {
             continue;
         }
@@ -179,7 +183,8 @@ pub fn related_record(r: &mut Random) -> (Record, u8, u8) {
         if other.fault(&record.widths).is_some() {
             continue;
         }
-        record.places[q as usize] = Some(other);
+        let chance = *r.pick(&[0, 50, 100]);
+        record.places[q as usize] = Some(generate::aliased(r, &record.codes, &other, chance));
         return if r.percent(50) { (record, p, q) } else { (record, q, p) };
     }
 }
@@ -222,10 +227,18 @@ pub fn any_question(r: &mut Random) -> (Record, u8, u8) {
     (record, if r.percent(12) { unknown } else { relation }, set)
 }
 
-/// A query that may break the rules: out of range, too long, loose.
-fn any_query(r: &mut Random, widths: &[u8]) -> Query {
+/// A query that may break the rules: out of range, too long, loose. With pairs of codes many of its constants are codes.
+fn any_query(r: &mut Random, widths: &[u8], codes: &[CodePair]) -> Query {
     let p = generate::Profile { rows: (0, 6), variables: 8, constant_chance: 20, constants: 5, head: 8 };
     let mut q = generate::query(r, widths, &p);
+    if !codes.is_empty() {
+        let pair: Vec<CodePair> = (0..3).map(|_| *r.pick(codes)).collect();
+        q = generate::substitute(&q, |e| match e {
+            Constant(c @ 0..=2) => Constant(pair[c as usize].old),
+            Constant(3) => Constant(pair[0].current),
+            e => e,
+        });
+    }
     if r.percent(35) {
         return q;
     }
@@ -269,14 +282,30 @@ fn any_query(r: &mut Random, widths: &[u8]) -> Query {
     q
 }
 
-/// Facts over few values; some obey all functional dependencies, but for a value that is changed at the end, some come from the rows of a query.
+/// A record, and a query to put into a place, which may break the rules.
+pub fn any_put(r: &mut Random) -> (Record, u8, Query) {
+    let record = record(r);
+    let p = place(r, &record, false);
+    let widths = if record.widths.is_empty() { vec![1] } else { record.widths.clone() };
+    let query = any_query(r, &widths, &record.codes);
+    (record, p, query)
+}
+
+/// Facts over few values; some obey all functional dependencies, but for a value that is changed at the end, some come from the rows of a query. Where there
+/// are pairs of codes, values are largely current codes first, and then old codes take the place of many.
 pub fn any_facts(r: &mut Random, record: &Record, query: Option<&Query>) -> Vec<Fact> {
-    let values: Vec<u32> = match r.below(4) {
+    let mut values: Vec<u32> = match r.below(4) {
         0 => vec![0, 1],
         1 => vec![0, 1, 2, 3],
         2 => vec![0, 1, 2, MAX_CONSTANT, MAX_CONSTANT + 1, u32::MAX],
         _ => (0..7).collect(),
     };
+    if !record.codes.is_empty() {
+        values.truncate(3);
+        values.extend((0..3).map(|_| r.pick(&record.codes).current));
+        values = values.iter().map(|&x| read_number(&record.codes, x)).collect();
+    }
+    let query = query.map(|q| read_query(&record.codes, q));
     let mut all: Vec<Fact> = vec![];
     let obey = r.percent(60);
     let still: Vec<u8> = (0..record.widths.len()).map(|k| determined(record, k as u8, 0).map_or(0, |(set, _)| set)).collect();
@@ -290,7 +319,7 @@ pub fn any_facts(r: &mut Random, record: &Record, query: Option<&Query>) -> Vec<
         }
     };
     for _ in 0..r.below(4) {
-        let Some(query) = query else { break };
+        let Some(query) = &query else { break };
         let assignment: Vec<u32> = (0..VARIABLES).map(|_| *r.pick(&values)).collect();
         for row in &query.rows {
             let values = row.entries.iter().map(|e| match e {
@@ -326,6 +355,10 @@ pub fn any_facts(r: &mut Random, record: &Record, query: Option<&Query>) -> Vec<
             let again = r.pick(&all).clone();
             all.push(again);
         }
+    }
+    let chance = *r.pick(&[0, 50, 80, 100]);
+    for fact in &mut all {
+        fact.values.iter_mut().for_each(|x| *x = generate::alias(r, &record.codes, *x, chance));
     }
     r.shuffle(&mut all);
     all
@@ -367,12 +400,63 @@ pub fn any_join_addition(r: &mut Random) -> (Record, JoinDependency) {
     (record, join)
 }
 
+/// A record and a pair of codes to add, which may break the rules. Some records hold as many as they may.
+pub fn any_code_addition(r: &mut Random) -> (Record, CodePair) {
+    let mut record = record(r);
+    if !record.widths.is_empty() && r.percent(50) {
+        let n = *r.pick(&[1, 2, 5, 15, 15, MAX_CODES, MAX_CODES]);
+        record.codes = generate::codes(r, &[], n);
+    }
+    let bad = generate::bad_pairs(r);
+    let mut pair = generate::codes(r, &[], 1)[0];
+    if bad.len() > 1 && record.codes.len() < MAX_CODES && !record.widths.is_empty() && r.percent(30) {
+        // The one that it must not stand beside is held.
+        record.codes.retain(|p| CodePair::is_sound(*p, &bad[..1]));
+        record.codes.insert(r.below(record.codes.len() + 1), bad[0]);
+        pair = bad[1];
+    } else if !record.codes.is_empty() {
+        let (one, other) = (*r.pick(&record.codes), *r.pick(&record.codes));
+        match r.below(15) {
+            0 => pair.old = one.old,
+            1 | 2 => pair.old = one.current,
+            3 | 4 => pair.current = one.old,
+            5 | 6 => pair.current = one.current,
+            7 => pair = CodePair { old: one.current, current: other.current },
+            8..=10 => pair = bad[0],
+            _ => {}
+        }
+    } else if r.percent(30) {
+        pair = bad[0];
+    }
+    (record, pair)
+}
+
 /// A record and a database to test it on.
 pub fn any_database(r: &mut Random) -> (Record, Vec<u32>) {
     let record = if r.percent(50) { generate::record_with_joins(r) } else { record(r) };
     let query = record.places.iter().flatten().next().cloned();
     let words = any_words(r, &record, query.as_ref());
     (record, words)
+}
+
+/// A record, a place, a database to evaluate its query on, and how many words the answers have, which are at most 400. Less often there is one answer or none.
+pub fn any_evaluation(r: &mut Random) -> (Record, u8, Vec<u32>, usize) {
+    loop {
+        let mut record = filled_record(r);
+        if record.codes.is_empty() && record != Record::default() && r.percent(25) {
+            record = generate::with_codes(r, record);
+        }
+        let p = place(r, &record, true);
+        let query = record.places.get(p as usize).cloned().flatten();
+        let words = any_words(r, &record, query.as_ref());
+        let (Some(query), Ok(facts)) = (&query, facts(&record.widths, &words)) else { return (record, p, words, 0) };
+        let (query, facts) = (read_query(&record.codes, query), read_facts(&record.codes, &facts));
+        let n = answers_within(&query, &facts, 400).len();
+        let due = n * query.head_length as usize;
+        if due <= 400 && (n > 1 || r.percent(40)) {
+            return (record, p, words, due);
+        }
+    }
 }
 
 /// A join dependency that may break the rules.
@@ -406,9 +490,35 @@ fn any_join(r: &mut Random, widths: &[u8]) -> JoinDependency {
     join
 }
 
-fn any_mapping(r: &mut Random, s: &Query, t: &Query) -> Mapping {
-    let mut mapping = find(s, t).unwrap_or([Constant(0); VARIABLES]);
+/// A record, two places, and what may be a mapping from the query of the second to that of the first.
+pub fn any_check(r: &mut Random) -> (Record, u8, u8, Mapping) {
+    let (record, p, q) = related_record(r);
+    let mut mapping = [Constant(0); VARIABLES];
+    if let Ok([t, s]) = record.filled([p, q]) {
+        mapping = any_mapping(r, &record.codes, s, t);
+    }
+    (record, p, q, mapping)
+}
+
+/// A mapping between the queries as they are read, or nearly one, with old codes for some current ones.
+pub fn any_mapping(r: &mut Random, codes: &[CodePair], s: &Query, t: &Query) -> Mapping {
+    let mut mapping = find(&read_query(codes, s), &read_query(codes, t)).unwrap_or([Constant(0); VARIABLES]);
     let entries: Vec<Entry> = t.rows.iter().flat_map(|x| x.entries.clone()).collect();
+    let chance = *r.pick(&[0, 50, 100]);
+    for v in s.variables() {
+        if let Constant(c) = mapping[v as usize] {
+            mapping[v as usize] = Constant(generate::alias(r, codes, c, chance));
+        }
+    }
+    if !codes.is_empty() && r.percent(25) {
+        // The image of a variable that may not occur: what 0 is read as, or what is read as 0.
+        let v = r.below(VARIABLES);
+        let zeros: Vec<u32> = codes.iter().filter(|p| p.current == 0).map(|p| p.old).collect();
+        let n = if zeros.is_empty() { read_number(codes, 0) } else { *r.pick(&zeros) };
+        if !s.variables().contains(&(v as u8)) {
+            mapping[v] = Constant(n);
+        }
+    }
     match r.below(5) {
         0 => {
             let v = r.below(VARIABLES);
@@ -429,7 +539,14 @@ fn line(r: &mut Random, call: usize) -> Line {
     match call {
         0 => {
             let file = loop {
-                let file = if r.percent(30) { bytes(&generate::record(r)) } else { generate::damaged(r) };
+                let file = match r.below(10) {
+                    0..=2 => bytes(&generate::record(r)),
+                    3..=5 => {
+                        let record = generate::record(r);
+                        generate::with_damaged_codes(r, &record)
+                    }
+                    _ => generate::damaged(r),
+                };
                 if file.len() < 900 || (file.len() < 5000 && r.percent(10)) {
                     break file;
                 }
@@ -440,7 +557,7 @@ fn line(r: &mut Random, call: usize) -> Line {
         1 => {
             let record = record(r);
             let length = bytes(&record).len();
-            let room = *r.pick(&[length, length - 1, length + 1, 0, 4445, 5000]);
+            let room = *r.pick(&[length, length - 1, length + 1, 0, 4574, 5000]);
             out.record(&record);
             out.number(room);
             out.answer(write(&record, &mut vec![0; room]), |out, n| out.number(n));
@@ -463,10 +580,7 @@ fn line(r: &mut Random, call: usize) -> Line {
             out.answer(record.add(d), |out, after| out.record(&after));
         }
         4 => {
-            let record = record(r);
-            let p = place(r, &record, false);
-            let widths = if record.widths.is_empty() { vec![1] } else { record.widths.clone() };
-            let query = any_query(r, &widths);
+            let (record, p, query) = any_put(r);
             out.record(&record);
             out.number(p);
             out.query(&query);
@@ -505,11 +619,7 @@ fn line(r: &mut Random, call: usize) -> Line {
             });
         }
         8 => {
-            let (record, p, q) = related_record(r);
-            let mut mapping = [Constant(0); VARIABLES];
-            if let Ok([t, s]) = record.filled([p, q]) {
-                mapping = any_mapping(r, s, t);
-            }
+            let (record, p, q, mapping) = any_check(r);
             out.record(&record);
             out.number(p);
             out.number(q);
@@ -541,18 +651,8 @@ fn line(r: &mut Random, call: usize) -> Line {
                 (0..4).for_each(|n| out.number(rows.get(n).copied().unwrap_or(0)));
             });
         }
-        11 => loop {
-            let record = filled_record(r);
-            let p = place(r, &record, true);
-            let query = record.places.get(p as usize).cloned().flatten();
-            let words = any_words(r, &record, query.as_ref());
-            let mut due = 0;
-            if let (Some(query), Ok(facts)) = (&query, facts(&record.widths, &words)) {
-                due = answers_within(query, &facts, 400).len() * query.head_length as usize;
-                if due > 400 {
-                    continue;
-                }
-            }
+        11 => {
+            let (record, p, words, due) = any_evaluation(r);
             let room = *r.pick(&[due, due, due.saturating_sub(1), due + 1, 0, due + 9, 400]);
             let mut buffer = vec![0; room];
             out.record(&record);
@@ -561,27 +661,33 @@ fn line(r: &mut Random, call: usize) -> Line {
             out.number(room);
             out.answer(evaluate(&record, p, &words, &mut buffer), |out, n| {
                 out.number(n);
-                out.list(&buffer[..n * query.unwrap().head_length as usize]);
+                out.list(&buffer[..n * record.places[p as usize].as_ref().unwrap().head_length as usize]);
             });
-            break;
-        },
+        }
         12 => {
             let record = filled_record(r);
             let p = place(r, &record, true);
             out.record(&record);
             out.number(p);
-            out.answer(record.filled([p]), |out, [query]| {
-                let chased = chase(&record.dependencies, query);
+            out.answer(queries(&record, [p]), |out, [query]| {
+                let chased = chase(&record.dependencies, &query);
                 out.number(chased.count);
                 out.query(&chased.query);
             });
         }
-        _ => {
+        13 => {
             let (record, join) = any_join_addition(r);
             out.record(&record);
             out.number(join.relation);
             out.list(&join.sets);
             out.answer(record.add_join(&join), |out, after| out.record(&after));
+        }
+        _ => {
+            let (record, pair) = any_code_addition(r);
+            out.record(&record);
+            out.number(pair.old);
+            out.number(pair.current);
+            out.answer(record.add_code(pair), |out, after| out.record(&after));
         }
     }
     out
@@ -617,22 +723,22 @@ mod tests {
     fn lines_read_as_the_readme_says() {
         let mut seen: BTreeMap<(u64, u64), usize> = BTreeMap::new();
         let mut verdicts: BTreeMap<(u64, u64), usize> = BTreeMap::new();
-        for k in 0..14 * 250 {
+        for k in 0..15 * 250 {
             let text = vector(5, k);
             assert_eq!(text, vector(5, k));
             let numbers: Vec<u64> = text.trim_end().split(' ').map(|n| n.parse().unwrap()).collect();
             let mut line = Reader(numbers.into_iter());
             let call = line.number();
-            assert_eq!(call, k % 14);
+            assert_eq!(call, k % 15);
             line.list();
             // Inputs after the first list: n a number, l a list.
-            for kind in ["", "n", "", "nnn", "nl", "n", "nn", "nn", "nnl", "nn", "l", "nln", "n", "nl"][call as usize].chars() {
+            for kind in ["", "n", "", "nnn", "nl", "n", "nn", "nn", "nnl", "nn", "l", "nln", "n", "nl", "nn"][call as usize].chars() {
                 if kind == 'n' { line.number(); } else { line.list(); }
             }
             let refusal = line.number();
             *seen.entry((call, refusal)).or_default() += 1;
             if refusal == 0 {
-                for (at, kind) in ["", "n", "l", "l", "l", "l", "nl", "nl", "n", "nn", "nnnnnn", "nl", "nl", "l"][call as usize].chars().enumerate() {
+                for (at, kind) in ["", "n", "l", "l", "l", "l", "nl", "nl", "n", "nn", "nnnnnn", "nl", "nl", "l", "l"][call as usize].chars().enumerate() {
                     if kind == 'l' {
                         line.list();
                     } else {
@@ -645,10 +751,10 @@ mod tests {
             }
             assert_eq!(line.0.next(), None);
         }
-        let due: [&[u64]; 14] = [
-            &[0, 1, 2, 3, 4, 5, 6, 15], &[0, 10, 14], &[0, 3], &[0, 4, 13, 14], &[0, 5, 6, 7, 12, 14], &[0, 7, 11, 14],
+        let due: [&[u64]; 15] = [
+            &[0, 1, 2, 3, 4, 5, 6, 15, 18], &[0, 10, 14], &[0, 3], &[0, 4, 13, 14], &[0, 5, 6, 7, 12, 14], &[0, 7, 11, 14],
             &[0, 7, 11, 12, 14], &[0, 7, 8, 11, 14, 17], &[0, 7, 8, 11, 14], &[0, 4, 14], &[0, 9, 14], &[0, 7, 9, 10, 11, 14], &[0, 7, 11, 14],
-            &[0, 14, 15, 16],
+            &[0, 14, 15, 16], &[0, 14, 18, 19],
         ];
         for (call, refusals) in due.iter().enumerate() {
             let got: Vec<u64> = seen.keys().filter(|k| k.0 == call as u64).map(|k| k.1).collect();

@@ -30,7 +30,7 @@ use Rattle.codes.specs.internal.Codes.{read_stored, read_cell, read_row, read_ro
 
 -- ---- one entry
 
-entry-read : (ps : List CodePair) (e : stored.Entry) → entry_of (read_stored ps e) ≡ read_entry ps (entry_of e)
+pub entry-read : (ps : List CodePair) (e : stored.Entry) → entry_of (read_stored ps e) ≡ read_entry ps (entry_of e)
 entry-read ps (Constant n) = refl
 entry-read ps (Variable v) = refl
 

@@ -81,6 +81,7 @@ impl Codes {
     // A stored query as it is read. What is not in use stays.
     pub fn read_query(&self, schema: Schema, q: Query) -> Query
         requires { good_query (widths_in schema) q ≡ true }
+        ensures arity { result.arity ≡ q.arity }
         ensures query { query_of (widths_in schema) result ≡ read_query (codes_in self.now) (query_of (widths_in schema) q) }
         ensures good { within_limit self.now → good_query (widths_in schema) result ≡ true }
         ensures safe { head_safe (widths_in schema) q ≡ true → head_safe (widths_in schema) result ≡ true }

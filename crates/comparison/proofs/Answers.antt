@@ -11,7 +11,8 @@ use native.Mathlib.Omega.{arith}
 use lib.Dec.{leb}
 use lib.ListN.{length, take}
 use borrow.Author.Tests.{le-leb, leb-true}
-use Rattle.record.specs.Calls.{stored_at, query_at}
+use Rattle.record.specs.Calls.{query_at}
+use Rattle.record.specs.internal.Reading.{ReadAs}
 use Rattle.query.specs.declared.Cell.{Cell}
 use Rattle.query.specs.Types.{Query, Tableau}
 use Rattle.record.specs.declared.Record.{Record}
@@ -40,14 +41,14 @@ use Rattle.minimization.specs.Checking.{maps_to}
 use Rattle.refusals.specs.Refusals.{reply}
 use Rattle.comparison.specs.declared.Verdict.{Verdict}
 use Rattle.comparison.specs.declared.Verdict.TheVariants as verdict
-use Rattle.comparison.specs.Comparison.{outcome_at, query_in, chased_at, pair_refusal, Compared, CheckedMapping}
+use Rattle.comparison.specs.Comparison.{outcome_at, query_in, chased_at, pair_refusal, images_at, Compared, CheckedMapping}
 use Rattle.std.specs.Prelude.{Result, Ok, Err, Option as Maybe, Some, None, IfSome}
 use Rattle.refusals.specs.declared.Refusal.{Refusal}
 use Rattle.refusals.specs.declared.Refusal.TheVariants as refusal
 use Rattle.refusals.specs.Refusal.{number_of}
 use Rattle.comparison.specs.internal.Pairs.{both, looked_up}
 use Rattle.comparison.proofs.Pairs.{standing, paired-places, compare-over}
-use Rattle.comparison.proofs.Verdicts.{queries, compared-refused, compared-never, compared-mapped, compared-apart}
+use Rattle.comparison.proofs.Verdicts.{Queries, queries, compared-refused, compared-never, compared-mapped, compared-apart}
 
 -- ---- the chase of the first query
 
@@ -87,31 +88,33 @@ parts-within r p q accepted =
     let g = good-record r (standing r p q accepted).good in
     (few-relations r.relations r.widths g.relations, g.held, g.joined)
 
-module _ (r : Record) (p q : ℕ) (accepted : pair_refusal r p q ≡ none) (sized : SizedFor 12 (stored_at r p)) where
+module _ (r : Record) (p q : ℕ) (a b : Query) (accepted : pair_refusal r p q ≡ none) (as-p : ReadAs r p a) (as-q : ReadAs r q b) (sized : SizedFor 12 a) where
+  known : Queries r p q a b
+  known = queries r p q a b accepted as-p as-q
+
   -- The tableau of the first query can be chased
   pub can-be-chased : every shaped_join r.joins ≡ true
-      → JoinChasable (tableau_of (stored_at r p)) (schema_of r) (take r.held r.dependencies) (take r.joined r.joins)
+      → JoinChasable (tableau_of a) (schema_of r) (take r.held r.dependencies) (take r.joined r.joins)
   can-be-chased shaped =
       let s = standing r p q accepted in
       record {
-        widths-good = (queries r p q accepted).widths;
+        widths-good = known.widths;
         dependencies-good = held-good (schema_of r) r.held r.dependencies (functional-good r s.good);
         joins-shaped = every_take shaped_join r.joined r.joins shaped;
         joins-good = used-good r.joined (good_join (schema_of r)) blank_join r.joins (good-record r s.good).joins;
-        tableau-good = tableau-good (schema_of r) (stored_at r p) sized (queries r p q accepted).good-p;
+        tableau-good = tableau-good (schema_of r) a sized as-p.good;
       }
 
   module _ (shaped : every shaped_join r.joins ≡ true) (result : Maybe Tableau)
-      (is : IsJoinChased (tableau_of (stored_at r p)) (schema_of r) (take r.held r.dependencies) (take r.joined r.joins) result) where
+      (is : IsJoinChased (tableau_of a) (schema_of r) (take r.held r.dependencies) (take r.joined r.joins) result) where
     fit : JoinsFit (schema_of r) (joins_of r)
     fit = good-joins-fit (schema_of r) r.joined r.joins shaped (joins-good r (standing r p q accepted).good)
 
     -- It ends as the chase of the query ends
     outcome : outcome_of (schema_of r) result ≡ outcome_at r p
     outcome =
-        let k = queries r p q accepted in
         is.outcome-is
-        ∙ ap (join_chase (schema_of r) (dependencies_of r) (joins_of r) 24) (tableau-query (schema_of r) (stored_at r p) sized k.good-p k.narrow)
+        ∙ ap (join_chase (schema_of r) (dependencies_of r) (joins_of r) 24) (tableau-query (schema_of r) a sized as-p.good known.narrow ∙ as-p.query)
 
     -- before a row that would be one too many
     pub answers-over : result ≡ None → Compared r p q (Err refusal.TooManyRows)
@@ -121,8 +124,8 @@ module _ (r : Record) (p q : ℕ) (accepted : pair_refusal r p q ≡ none) (size
 
     -- or in a query
     module _ (query : Tableau) (under : result ≡ Some query) where
-      same-head : query.arity ≡ (stored_at r p).arity
-      same-head = subst (λ (o : Maybe Tableau). IfSome o (λ t. t.arity ≡ (stored_at r p).arity)) under is.same-arity
+      same-head : query.arity ≡ a.arity
+      same-head = subst (λ (o : Maybe Tableau). IfSome o (λ t. t.arity ≡ a.arity)) under is.same-arity
 
       good-query-found : good_tableau (schema_of r) query ≡ true
       good-query-found = subst (λ (o : Maybe Tableau). IfSome o (λ t. good_tableau (schema_of r) t ≡ true)) under is.good
@@ -137,8 +140,8 @@ module _ (r : Record) (p q : ℕ) (accepted : pair_refusal r p q ≡ none) (size
       ends_so = ends ∙ ap chased chased-is
 
       -- to which a mapping can be looked for
-      pub both-storable : Storable (stored_at r q) × StorableTableau query
-      both-storable = ((schema_of r, (queries r p q accepted).good-q), (schema_of r, good-query-found))
+      pub both-storable : Storable b × StorableTableau query
+      both-storable = ((schema_of r, as-q.good), (schema_of r, good-query-found))
 
       -- It is never
       pub answers-never : query.size ≡ 0 → Compared r p q (Ok verdict.Never)
@@ -146,12 +149,11 @@ module _ (r : Record) (p q : ℕ) (accepted : pair_refusal r p q ≡ none) (size
           compared-never r p q accepted fit ends_so
           (ap (λ (x : theory.Query). x.rows) (sym chased-is) ∙ never-rows (schema_of r) (as_query query) zero)
 
-      module _ (mapped : Maybe (List Cell)) (finds : Finds (stored_at r q) query mapped) where
+      module _ (mapped : Maybe (List Cell)) (finds : Finds b query mapped) where
         found : IsMapped (query_at r q) (chased_at r p) mapped
         found =
-            let k = queries r p q accepted in
-            subst (λ (T : theory.Query). IsMapped (query_at r q) T mapped) chased-is
-            (finds (schema_of r) k.narrow k.good-q (good-query-found) (sym k.same-arity ∙ sym same-head))
+            subst₂ (λ (S T : theory.Query). IsMapped S T mapped) as-q.query chased-is
+            (finds (schema_of r) known.narrow as-q.good (good-query-found) (sym known.same-arity ∙ sym same-head))
 
         -- There is one
         pub answers-contained : (images : List Cell) → mapped ≡ Some images → Compared r p q (Ok (verdict.Mapped images))
@@ -170,7 +172,7 @@ module _ (r : Record) (p q : ℕ) (accepted : pair_refusal r p q ≡ none) (size
           pub answers-apart : mapped ≡ None → Compared r p q (Ok (verdict.Apart query))
           answers-apart e =
               let out : answer.Mapping (query_at r q) (chased_at r p) → ⊥ = subst (IsMapped (query_at r q) (chased_at r p)) e found in
-              compared-apart r p q accepted fit ends_so some-rows sized.cells query chased-is (good-query-found) out
+              compared-apart r p q accepted fit ends_so some-rows a b sized.cells as-p as-q query chased-is (good-query-found) out
 
 -- ---- two places
 
@@ -193,29 +195,26 @@ module _ (r : Record) (p q a b : ℕ) (is : looked_up r p q ≡ both a b) where
       subst₂ (λ (x y : ℕ). Compared r x y c) (sym f.1) (sym f.2)
 
   -- The queries that are read are theirs
-  pub places-read : (x y : Query) → x ≡ stored_at r a → y ≡ stored_at r b → (pair_refusal r p q ≡ none) × (x ≡ stored_at r p) × (y ≡ stored_at r q)
-  places-read x y is_x is_y =
+  pub places-read : (x y : Query) → ReadAs r a x → ReadAs r b y → (pair_refusal r p q ≡ none) × ReadAs r p x × ReadAs r q y
+  places-read x y as-a as-b =
       let f = paired-places (pair_refusal r p q) p q a b is in
-      (f.0, is_x ∙ ap (stored_at r) (sym f.1), is_y ∙ ap (stored_at r) (sym f.2))
+      (f.0, subst (λ (k : ℕ). ReadAs r k x) (sym f.1) as-a, subst (λ (k : ℕ). ReadAs r k y) (sym f.2) as-b)
 
 -- ---- the checking of a mapping
 
 pub checks-refused : (r : Record) (p q : ℕ) (images : List Cell) (n : Refusal) → pair_refusal r p q ≡ some (number_of n) → CheckedMapping r p q images (Err n)
-checks-refused r p q images n e = ap (λ (o : Option ℕ). reply o (maps_to (query_at r q) (query_at r p) (entries_of images))) (sym e)
+checks-refused r p q images n e = ap (λ (o : Option ℕ). reply o (maps_to (query_at r q) (query_at r p) (images_at r q images))) (sym e)
 
-module _ (r : Record) (p q : ℕ) (images : List Cell) (x y : Query) (accepted : pair_refusal r p q ≡ none) (is_x : x ≡ stored_at r p)
-    (is_y : y ≡ stored_at r q) where
+module _ (r : Record) (p q : ℕ) (x y : Query) (accepted : pair_refusal r p q ≡ none) (as-p : ReadAs r p x) (as-q : ReadAs r q y) where
   pub check-storable : Storable y × Storable x
-  check-storable =
-      let k = queries r p q accepted in
-      ((schema_of r, rw is_y k.good-q), (schema_of r, rw is_x k.good-p))
+  check-storable = ((schema_of r, as-q.good), (schema_of r, as-p.good))
 
-  module _ (b : Bool) (checks : Checks y x images b) where
-    tells : b ≡ maps_to (query_at r q) (query_at r p) (entries_of images)
+  module _ (images read : List Cell) (are : entries_of read ≡ images_at r q images) (b : Bool) (checks : Checks y x read b) where
+    tells : b ≡ maps_to (query_at r q) (query_at r p) (images_at r q images)
     tells =
-        let k = queries r p q accepted in
-        checks (schema_of r) k.narrow (rw is_y k.good-q) (rw is_x k.good-p)
-        ∙ ap₂ (λ (S T : Query). maps_to (query_of (schema_of r) S) (query_of (schema_of r) T) (entries_of images)) is_y is_x
+        checks (schema_of r) (queries r p q x y accepted as-p as-q).narrow as-q.good as-p.good
+        ∙ ap₂ (λ (S T : theory.Query). maps_to S T (entries_of read)) as-q.query as-p.query
+        ∙ ap (maps_to (query_at r q) (query_at r p)) are
 
     -- The answer is what the test tells
     pub checks-told : CheckedMapping r p q images (Ok b)

@@ -8,17 +8,16 @@ use Prim.Native.Nat.{ℕ}
 use native.Mathlib.Omega.{arith}
 use Rattle.refusals.specs.Refusals.{gives, reply}
 use Rattle.query.specs.declared.Cell.{Cell}
-use Rattle.query.specs.View.{entries_of, images_of}
 use Rattle.record.specs.declared.Record.{Record}
 use Rattle.record.specs.Calls.{query_at}
 use Rattle.theory.specs.Answer.{IsMapping}
-use Rattle.minimization.specs.Checking.{maps_to}
-use Rattle.mapping.proofs.Checked.{test-tells}
+use Rattle.minimization.specs.Checking.{image_at, maps_to}
+use Rattle.minimization.proofs.Checking.{maps-to-exact}
 use Rattle.std.specs.Prelude.{Result, Ok, Err}
 use Rattle.refusals.specs.declared.Refusal.{Refusal}
 use Rattle.refusals.specs.Refusal.{reply_of}
 use Rattle.refusals.proofs.Refusals.{refused-gives}
-use Rattle.comparison.specs.Comparison.{pair_refusal, CheckedMapping}
+use Rattle.comparison.specs.Comparison.{pair_refusal, images_at, CheckedMapping}
 
 true-false : true ≡ false → ⊥
 true-false e = let z : ◌≡◌ {A = ℕ} 0 1 = cc in omega arith
@@ -32,18 +31,18 @@ module _ (r : Record) (p q : ℕ) (images : List Cell) (c : Result Bool Refusal)
   pub checked_refused : (n : ℕ) → pair_refusal r p q ≡ some n → (b : Bool) → c ≡ Ok b → ⊥
   checked_refused n e b f =
       refused-gives
-      (sym (is ∙ ap (λ (o : Option ℕ). reply o (maps_to (query_at r q) (query_at r p) (entries_of images))) e) ∙ ap reply_of f)
+      (sym (is ∙ ap (λ (o : Option ℕ). reply o (maps_to (query_at r q) (query_at r p) (images_at r q images))) e) ∙ ap reply_of f)
 
   pub checked-decided : pair_refusal r p q ≡ none
-      → ((c ≡ Ok true) × IsMapping (query_at r q) (query_at r p) (images_of images))
-      ⊎ ((c ≡ Ok false) × (IsMapping (query_at r q) (query_at r p) (images_of images) → ⊥))
-  checked-decided e = go (maps_to (query_at r q) (query_at r p) (entries_of images)) refl
+      → ((c ≡ Ok true) × IsMapping (query_at r q) (query_at r p) (image_at (images_at r q images)))
+      ⊎ ((c ≡ Ok false) × (IsMapping (query_at r q) (query_at r p) (image_at (images_at r q images)) → ⊥))
+  checked-decided e = go (maps_to (query_at r q) (query_at r p) (images_at r q images)) refl
     where
-      says : reply_of c ≡ gives (maps_to (query_at r q) (query_at r p) (entries_of images))
-      says = is ∙ ap (λ (o : Option ℕ). reply o (maps_to (query_at r q) (query_at r p) (entries_of images))) e
+      says : reply_of c ≡ gives (maps_to (query_at r q) (query_at r p) (images_at r q images))
+      says = is ∙ ap (λ (o : Option ℕ). reply o (maps_to (query_at r q) (query_at r p) (images_at r q images))) e
 
-      go : (b : Bool) → maps_to (query_at r q) (query_at r p) (entries_of images) ≡ b
-          → ((c ≡ Ok true) × IsMapping (query_at r q) (query_at r p) (images_of images))
-          ⊎ ((c ≡ Ok false) × (IsMapping (query_at r q) (query_at r p) (images_of images) → ⊥))
-      go true f = inl (ok_case c true (says ∙ ap gives f), (test-tells (query_at r q) (query_at r p) images).0 f)
-      go false f = inr (ok_case c false (says ∙ ap gives f), λ m. absurd (true-false (sym ((test-tells (query_at r q) (query_at r p) images).1 m) ∙ f)))
+      go : (b : Bool) → maps_to (query_at r q) (query_at r p) (images_at r q images) ≡ b
+          → ((c ≡ Ok true) × IsMapping (query_at r q) (query_at r p) (image_at (images_at r q images)))
+          ⊎ ((c ≡ Ok false) × (IsMapping (query_at r q) (query_at r p) (image_at (images_at r q images)) → ⊥))
+      go true f = inl (ok_case c true (says ∙ ap gives f), (maps-to-exact (query_at r q) (query_at r p) (images_at r q images)).0 f)
+      go false f = inr (ok_case c false (says ∙ ap gives f), λ m. absurd (true-false (sym ((maps-to-exact (query_at r q) (query_at r p) (images_at r q images)).1 m) ∙ f)))

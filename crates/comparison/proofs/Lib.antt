@@ -2,5 +2,6 @@
 pub mod Pairs
 pub mod Verdicts
 pub mod Answers
+pub mod Images
 pub mod Checks
 pub mod Meaning

@@ -19,7 +19,8 @@ use Rattle.join_rule.proofs.Fitting.{good-joins-fit}
 use Rattle.query.specs.declared.Cell.{Cell}
 use Rattle.query.specs.Types.{Query}
 use Rattle.query.specs.Types.{Tableau}
-use Rattle.query.specs.View.{as_query, held_joins, images_of}
+use Rattle.minimization.specs.Checking.{image_at}
+use Rattle.query.specs.View.{as_query, held_joins}
 use Rattle.query.proofs.Meaning.{stored-unique}
 use Rattle.record.specs.declared.Record.{Record}
 use Rattle.record.specs.View.{schema_of, dependencies_of, joins_of}
@@ -28,12 +29,12 @@ use Rattle.comparison.specs.declared.Verdict.{Verdict}
 use Rattle.comparison.specs.declared.Verdict.TheVariants as verdict
 use Rattle.std.specs.Prelude.{Result, Ok, Err, Bool, true, false}
 use Rattle.refusals.specs.declared.Refusal.{Refusal}
-use Rattle.comparison.specs.Comparison.{pair_refusal, comparison_refusal, not_contained, verdict_reply, verdict_of, Compared, ComparisonShape, CheckedMapping}
+use Rattle.comparison.specs.Comparison.{pair_refusal, comparison_refusal, not_contained, verdict_reply, verdict_of, images_at, Compared, ComparisonShape, CheckedMapping}
 use Rattle.comparison.specs.Meaning.{CheckMeans, CheckDenies, ComparedOnce, FunctionalAlone, OutcomeMeans}
-use Rattle.comparison.proofs.Pairs.{compare-stands}
+use Rattle.comparison.proofs.Pairs.{standing, compare-stands}
 use Rattle.comparison.proofs.Answers.{joins-good}
 use Rattle.comparison.proofs.Checks.{checked_refused, checked-decided}
-use Rattle.comparison.proofs.Verdicts.{queries}
+use Rattle.record.proofs.Stored as stored
 
 -- ---- checking a mapping
 
@@ -42,36 +43,36 @@ yes-no : ◌≡◌ {A = Result Bool Refusal} (Ok true) (Ok false) → ⊥
 yes-no e = let z : ◌≡◌ {A = ℕ} 0 1 = cc in omega arith
 
 module _ (r : Record) (p q : ℕ) (images : List Cell) (c : Result Bool Refusal) (is : CheckedMapping r p q images c) where
-  says-yes : c ≡ Ok true → (pair_refusal r p q ≡ none) × IsMapping (query_at r q) (query_at r p) (images_of images)
+  says-yes : c ≡ Ok true → (pair_refusal r p q ≡ none) × IsMapping (query_at r q) (query_at r p) (image_at (images_at r q images))
   says-yes y = go (pair_refusal r p q) refl
     where
-      go : (o : Option ℕ) → pair_refusal r p q ≡ o → (pair_refusal r p q ≡ none) × IsMapping (query_at r q) (query_at r p) (images_of images)
+      go : (o : Option ℕ) → pair_refusal r p q ≡ o → (pair_refusal r p q ≡ none) × IsMapping (query_at r q) (query_at r p) (image_at (images_at r q images))
       go none e =
-          ⊎_elim (λ (h : (c ≡ Ok true) × IsMapping (query_at r q) (query_at r p) (images_of images)). (e, h.1))
-          (λ (h : (c ≡ Ok false) × (IsMapping (query_at r q) (query_at r p) (images_of images) → ⊥)). absurd (yes-no (sym y ∙ h.0)))
+          ⊎_elim (λ (h : (c ≡ Ok true) × IsMapping (query_at r q) (query_at r p) (image_at (images_at r q images))). (e, h.1))
+          (λ (h : (c ≡ Ok false) × (IsMapping (query_at r q) (query_at r p) (image_at (images_at r q images)) → ⊥)). absurd (yes-no (sym y ∙ h.0)))
           (checked-decided r p q images c is e)
       go (some n) e = absurd (checked_refused r p q images c is n e true y)
 
-  says-no : c ≡ Ok false → (pair_refusal r p q ≡ none) × (IsMapping (query_at r q) (query_at r p) (images_of images) → ⊥)
+  says-no : c ≡ Ok false → (pair_refusal r p q ≡ none) × (IsMapping (query_at r q) (query_at r p) (image_at (images_at r q images)) → ⊥)
   says-no y = go (pair_refusal r p q) refl
     where
-      go : (o : Option ℕ) → pair_refusal r p q ≡ o → (pair_refusal r p q ≡ none) × (IsMapping (query_at r q) (query_at r p) (images_of images) → ⊥)
+      go : (o : Option ℕ) → pair_refusal r p q ≡ o → (pair_refusal r p q ≡ none) × (IsMapping (query_at r q) (query_at r p) (image_at (images_at r q images)) → ⊥)
       go none e =
-          ⊎_elim (λ (h : (c ≡ Ok true) × IsMapping (query_at r q) (query_at r p) (images_of images)). absurd (yes-no (sym h.0 ∙ y)))
-          (λ (h : (c ≡ Ok false) × (IsMapping (query_at r q) (query_at r p) (images_of images) → ⊥)). (e, h.1))
+          ⊎_elim (λ (h : (c ≡ Ok true) × IsMapping (query_at r q) (query_at r p) (image_at (images_at r q images))). absurd (yes-no (sym h.0 ∙ y)))
+          (λ (h : (c ≡ Ok false) × (IsMapping (query_at r q) (query_at r p) (image_at (images_at r q images)) → ⊥)). (e, h.1))
           (checked-decided r p q images c is e)
       go (some n) e = absurd (checked_refused r p q images c is n e false y)
 
-  is-yes : (pair_refusal r p q ≡ none) × IsMapping (query_at r q) (query_at r p) (images_of images) → c ≡ Ok true
+  is-yes : (pair_refusal r p q ≡ none) × IsMapping (query_at r q) (query_at r p) (image_at (images_at r q images)) → c ≡ Ok true
   is-yes both =
-      ⊎_elim (λ (h : (c ≡ Ok true) × IsMapping (query_at r q) (query_at r p) (images_of images)). h.0)
-      (λ (h : (c ≡ Ok false) × (IsMapping (query_at r q) (query_at r p) (images_of images) → ⊥)). absurd (h.1 both.1))
+      ⊎_elim (λ (h : (c ≡ Ok true) × IsMapping (query_at r q) (query_at r p) (image_at (images_at r q images))). h.0)
+      (λ (h : (c ≡ Ok false) × (IsMapping (query_at r q) (query_at r p) (image_at (images_at r q images)) → ⊥)). absurd (h.1 both.1))
       (checked-decided r p q images c is both.0)
 
-  is-no : (pair_refusal r p q ≡ none) × (IsMapping (query_at r q) (query_at r p) (images_of images) → ⊥) → c ≡ Ok false
+  is-no : (pair_refusal r p q ≡ none) × (IsMapping (query_at r q) (query_at r p) (image_at (images_at r q images)) → ⊥) → c ≡ Ok false
   is-no both =
-      ⊎_elim (λ (h : (c ≡ Ok true) × IsMapping (query_at r q) (query_at r p) (images_of images)). absurd (both.1 h.1))
-      (λ (h : (c ≡ Ok false) × (IsMapping (query_at r q) (query_at r p) (images_of images) → ⊥)). h.0)
+      ⊎_elim (λ (h : (c ≡ Ok true) × IsMapping (query_at r q) (query_at r p) (image_at (images_at r q images))). absurd (both.1 h.1))
+      (λ (h : (c ≡ Ok false) × (IsMapping (query_at r q) (query_at r p) (image_at (images_at r q images)) → ⊥)). h.0)
       (checked-decided r p q images c is both.0)
 
 pub check-means : CheckMeans
@@ -110,11 +111,11 @@ compared-once r p q c d sized-c sized-d is is' = go c d sized-c sized-d is is' (
     go (Ok (verdict.Apart query)) (Ok verdict.Never) sized-c sized-d is is' e = let z : ◌≡◌ {A = ℕ} 0 2 = cc in absurd (omega arith)
     go (Ok (verdict.Apart query)) (Ok (verdict.Mapped others)) sized-c sized-d is is' e = let z : ◌≡◌ {A = ℕ} 0 1 = cc in absurd (omega arith)
     go (Ok (verdict.Apart query)) (Ok (verdict.Apart other)) sized-c sized-d is is' e =
-        let known = queries r p q (apart-accepted r p q (sym is.verdict)) in
+        let narrow = stored.narrow r (standing r p q (apart-accepted r p q (sym is.verdict))).good in
         let a = is.chased query refl in
         let b = is'.chased other refl in
         let same : query ≡ other =
-        ap as_tableau (stored-unique 24 (schema_of r) known.narrow (as_query query) (as_query other) sized-c sized-d a.1 b.1 (a.0 ∙ sym b.0))
+        ap as_tableau (stored-unique 24 (schema_of r) narrow (as_query query) (as_query other) sized-c sized-d a.1 b.1 (a.0 ∙ sym b.0))
         in
         inl (ap (λ (t : Tableau). Ok (verdict.Apart t)) same)
     go (Ok (verdict.Apart query)) (Err other) sized-c sized-d is is' e = absurd (refused-gives (sym e))

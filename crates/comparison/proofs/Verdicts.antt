@@ -7,34 +7,33 @@ use mathlib.Core.Logic.{◌≢◌, ◌⊎◌, inl, inr}
 use mathlib.Core.Bool.{Bool, true, false, cond}
 use mathlib.Core.List.{List, [], ◌∷◌}
 use mathlib.Core.Option.{Option, none, some}
-use Prim.Native.Nat.{ℕ, ◌*◌, ◌≤◌}
+use Prim.Native.Nat.{ℕ, ◌≤◌}
 use native.Mathlib.Omega.{arith}
 use lib.ListN.{length, get_or}
 use Rattle.refusals.specs.Refusals.{gives, reply}
 use Rattle.query.specs.declared.Cell.{Cell}
-use Rattle.query.specs.Types.{Tableau}
-use Rattle.record.proofs.Kept.{empty-place}
+use Rattle.query.specs.Types.{Query, Tableau}
 use Rattle.record.specs.declared.Record.{Record}
 use Rattle.query.specs.View.{query_of, as_query, images_of}
-use Rattle.record.specs.View.{schema_of, dependencies_of, joins_of}
+use Rattle.record.specs.View.{schema_of, codes_of, dependencies_of, joins_of}
 use Rattle.lists.specs.Tests.{every, between}
-use Rattle.query.specs.Rule.{good_query, good_tableau, head_safe, good_place, no_place}
+use Rattle.query.specs.Rule.{good_tableau}
 use Rattle.record.specs.Rule.{good_record}
-use Rattle.record.specs.Calls.{is_filled, stored_at, query_at}
+use Rattle.record.specs.Calls.{query_at}
+use Rattle.record.specs.internal.Reading.{ReadAs}
 use Rattle.record.proofs.Good.{good-record}
-use Rattle.query.proofs.Good.{good-query}
+use Rattle.record.proofs.Reading.{read-current, read-below, read-formed}
+use Rattle.record.proofs.Meaning.{old-below}
 use Rattle.record.proofs.Stored as stored
-use Rattle.query.proofs.Stored as query-stored
 use Rattle.chase.proofs.Callers.{good-widths}
-use Rattle.lists.proofs.Positions.{every-get_or-else}
 use Rattle.theory.specs.Query as theory
 use Rattle.theory.specs.Answer as answer
 use Rattle.theory.specs.Containment as containment
-use Rattle.joins.specs.Join.{ObeysBoth, LegalForBoth, JoinsFit}
+use Rattle.joins.specs.Join.{ObeysBoth, LegalForBothAsRead, JoinsFit}
 use Rattle.joins.specs.JoinChase.{chased, JoinChases}
 use Rattle.minimization.specs.Search as search
 use Rattle.minimization.proofs.Search.{mappable-exact}
-use Rattle.joins.proofs.Theorems.{join-chase-computes, join-contained-obeying, join-chased-counterexample}
+use Rattle.joins.proofs.Theorems.{join-chase-computes, join-contained-obeying, join-chased-counterexample-as-read}
 use Rattle.std.specs.Prelude.{Ok, Err}
 use Rattle.comparison.specs.declared.Verdict.TheVariants.{Never, Mapped, Apart}
 use Rattle.refusals.specs.declared.Refusal.{Refusal}
@@ -45,34 +44,25 @@ use Rattle.comparison.proofs.Pairs.{standing, compare-ends}
 
 -- ---- the queries of two places
 
--- A filled place of a good record holds a good query with a safe head
-filled-good : (r : Record) → good_record r ≡ true → (place : ℕ) → is_filled r place ≡ true
-    → (good_query (schema_of r) (stored_at r place) ≡ true) × (head_safe (schema_of r) (stored_at r place) ≡ true)
-filled-good r good place filled =
-    stored.filled-parts (schema_of r) (get_or r.places place no_place)
-    (every-get_or-else (good_place (schema_of r)) r.places place no_place (good-record r good).places (empty-place (schema_of r))) filled
-
--- What is known of the queries of two places that are not refused
-pub record Queries (r : Record) (p q : ℕ) : Type 0 where
+-- What is known of the queries of two places that are not refused, where a and b are read from them
+pub record Queries (r : Record) (p q : ℕ) (a b : Query) : Type 0 where
+  pub good : good_record r ≡ true
   pub widths : every (between 1 8) (schema_of r) ≡ true
   pub narrow : (i : ℕ) → get_or (schema_of r) i 0 ≤ 8
-  pub good-p : good_query (schema_of r) (stored_at r p) ≡ true
-  pub good-q : good_query (schema_of r) (stored_at r q) ≡ true
-  pub safe-p : head_safe (schema_of r) (stored_at r p) ≡ true
-  pub same-arity : (stored_at r p).arity ≡ (stored_at r q).arity
+  pub same-arity : a.arity ≡ b.arity
+  pub as-p : ReadAs r p a
+  pub as-q : ReadAs r q b
 
-pub queries : (r : Record) (p q : ℕ) → pair_refusal r p q ≡ none → Queries r p q
-queries r p q accepted =
+pub queries : (r : Record) (p q : ℕ) (a b : Query) → pair_refusal r p q ≡ none → ReadAs r p a → ReadAs r q b → Queries r p q a b
+queries r p q a b accepted as-p as-q =
     let s = standing r p q accepted in
-    let first = filled-good r s.good p s.filled-p in
-    let second = filled-good r s.good q s.filled-q in
     record {
+      good = s.good;
       widths = good-widths r.relations r.widths (good-record r s.good).relations;
       narrow = stored.narrow r s.good;
-      good-p = first.0;
-      good-q = second.0;
-      safe-p = first.1;
-      same-arity = s.same-arity;
+      same-arity = as-p.arity ∙ s.same-arity ∙ sym as-q.arity;
+      as-p = as-p;
+      as-q = as-q;
     }
 
 -- ---- the verdict
@@ -142,10 +132,11 @@ module _ (r : Record) (p q : ℕ) (accepted : pair_refusal r p q ≡ none) (fit 
         }
 
     -- It does not: the chased query, read as a database, shows it
-    pub compared-apart : length (stored_at r p).cells ≡ 96 → (t : Tableau) → query_of (schema_of r) (as_query t) ≡ chased_at r p
-        → good_tableau (schema_of r) t ≡ true → (answer.Mapping (query_at r q) (chased_at r p) → ⊥)
+    pub compared-apart : (a b : Query) → length a.cells ≡ 96 → ReadAs r p a → ReadAs r q b → (t : Tableau)
+        → query_of (schema_of r) (as_query t) ≡ chased_at r p → good_tableau (schema_of r) t ≡ true
+        → (answer.Mapping (query_at r q) (chased_at r p) → ⊥)
         → Compared r p q (Ok (Apart t))
-    compared-apart long t is good not =
+    compared-apart a b long as-p as-q t is good not =
         record {
           verdict = verdict-found false (unmappable (search.mappable (query_at r q) (chased_at r p)) refl);
           mapping = λ images e. absurd (cc);
@@ -159,32 +150,26 @@ module _ (r : Record) (p q : ℕ) (accepted : pair_refusal r p q ≡ none) (fit 
               let same : t ≡ query = cc in
               subst
               (λ (u : Tableau).
-              containment.Counterexample (LegalForBoth (schema_of r) (dependencies_of r) (joins_of r)) (query_at r p) (query_at r q)
+              containment.Counterexample (LegalForBothAsRead (codes_of r) (schema_of r) (dependencies_of r) (joins_of r)) (query_at r p) (query_at r q)
               (containment.frozen_rows base (query_of (schema_of r) (as_query u))) (containment.frozen_head base (query_of (schema_of r) (as_query u))))
               same shown;
         }
       where
-        known : Queries r p q
-        known = queries r p q accepted
+        held : good_record r ≡ true
+        held = (standing r p q accepted).good
 
         unmappable : (b : Bool) → search.mappable (query_at r q) (chased_at r p) ≡ b → search.mappable (query_at r q) (chased_at r p) ≡ false
         unmappable true e = absurd (not ((mappable-exact (query_at r q) (chased_at r p)).0 e))
         unmappable false e = e
 
-        fits : 8 * (stored_at r p).size ≤ length (stored_at r p).cells
-        fits = omega (arith, long, (good-query 12 (schema_of r) (stored_at r p) known.good-p).size)
-
-        formed : theory.WellFormed (schema_of r) (query_at r p)
-        formed = query-stored.well-formed 12 (schema_of r) known.narrow (stored_at r p) known.good-p fits known.safe-p
-
-        shown : containment.Counterexample (LegalForBoth (schema_of r) (dependencies_of r) (joins_of r)) (query_at r p) (query_at r q)
+        shown : containment.Counterexample (LegalForBothAsRead (codes_of r) (schema_of r) (dependencies_of r) (joins_of r)) (query_at r p) (query_at r q)
             (containment.frozen_rows base (query_of (schema_of r) (as_query t))) (containment.frozen_head base (query_of (schema_of r) (as_query t)))
         shown =
             subst
             (λ (C : theory.Query).
-            containment.Counterexample (LegalForBoth (schema_of r) (dependencies_of r) (joins_of r)) (query_at r p) (query_at r q) (containment.frozen_rows base C)
+            containment.Counterexample (LegalForBothAsRead (codes_of r) (schema_of r) (dependencies_of r) (joins_of r)) (query_at r p) (query_at r q) (containment.frozen_rows base C)
             (containment.frozen_head base C))
             (sym is)
-            (join-chased-counterexample (schema_of r) (dependencies_of r) (joins_of r) 24 (query_at r p) (query_at r q) (chased_at r p) base fit chases
-            formed.rows_fit (query-stored.constants-below 12 (schema_of r) known.narrow (stored_at r p) known.good-p)
-            (query-stored.constants-below 12 (schema_of r) known.narrow (stored_at r q) known.good-q) (omega arith) filled not)
+            (join-chased-counterexample-as-read (codes_of r) (schema_of r) (dependencies_of r) (joins_of r) 24 (query_at r p) (query_at r q) (chased_at r p) base
+            fit chases (read-formed r held p a as-p long).rows_fit (read-current r held p) (read-below r held p a as-p) (read-below r held q b as-q)
+            (old-below r held) (omega arith) filled not)

@@ -1,11 +1,11 @@
 -- What comparing two places and checking a mapping promise (demand 2). Which mapping a comparison returns is free; everything else is determined.
-use Rattle.std.specs.Prelude.{Result, Ok, Err, ◌≡◌, Bool, true, false, not, cond, List, [], ◌∷◌, ◌++◌, ℕ, eqb, length}
+use Rattle.std.specs.Prelude.{Result, Ok, Err, ◌≡◌, Bool, true, false, not, cond, List, [], ◌∷◌, ◌++◌, ℕ, suc, eqb, length}
 use Rattle.std.proofs.Math.Option.{Option}
 use Rattle.query.specs.declared.Cell.{Cell}
 use Rattle.query.specs.Types.{Tableau}
 use Rattle.record.specs.declared.Record.{Record}
 use Rattle.query.specs.View.{entries_of, query_of, as_query, images_of}
-use Rattle.record.specs.View.{schema_of, dependencies_of, joins_of}
+use Rattle.record.specs.View.{schema_of, codes_of, dependencies_of, joins_of}
 use Rattle.query.specs.Rule.{good_tableau, shaped_tableau}
 use Rattle.refusals.specs.Refusals.{Condition, first_holding, heads_differ, too_many_rows, Reply, refused, gives, reply}
 use Rattle.record.specs.Calls.{broken_record, unknown_place, vacant, stored_at, query_at}
@@ -14,9 +14,10 @@ use Rattle.comparison.specs.declared.Verdict.TheVariants.{Never, Mapped, Apart}
 use Rattle.refusals.specs.declared.Refusal.{Refusal}
 use Rattle.refusals.specs.Refusal.{number_of, reply_of}
 use Rattle.theory.specs.Query as theory
+use Rattle.theory.specs.Codes.{CodePair, read_entry}
 use Rattle.theory.specs.Answer as answer
 use Rattle.theory.specs.Containment as containment
-use Rattle.joins.specs.Join.{ObeysBoth, LegalForBoth}
+use Rattle.joins.specs.Join.{ObeysBoth, LegalForBothAsRead}
 use Rattle.joins.specs.JoinChase.{Outcome, chased, overflow, join_chase}
 use Rattle.minimization.specs.Search as search
 use Rattle.minimization.specs.Checking.{maps_to}
@@ -102,7 +103,7 @@ SaysContained (Err refusal) = ⊥
 -- What comparing places p and q promises.
 -- The verdict, and what it holds: a mapping from q's query to p's chased query where it is contained with one, p's chased query where it is not contained.
 -- And demand 2: contained means that each answer of p is an answer of q on every database that obeys the dependencies of both kinds; not contained, that the
--- chased query read as a database shows the contrary
+-- chased query read as a database, which obeys them and has no old code, shows the contrary. Both queries are as they are read
 pub record Compared (r : Record) (p q : ℕ) (c : Result Verdict Refusal) : Type 0 where
   pub verdict : verdict_reply c ≡ verdict_of r p q
   pub mapping : (images : List Cell) → c ≡ Ok (Mapped images) → answer.IsMapping (query_at r q) (chased_at r p) (images_of images)
@@ -111,7 +112,7 @@ pub record Compared (r : Record) (p q : ℕ) (c : Result Verdict Refusal) : Type
   pub contained : SaysContained c
       → containment.Contained (ObeysBoth (schema_of r) (dependencies_of r) (joins_of r)) (query_at r p) (query_at r q)
   pub apart : (query : Tableau) → c ≡ Ok (Apart query)
-      → containment.Counterexample (LegalForBoth (schema_of r) (dependencies_of r) (joins_of r)) (query_at r p) (query_at r q)
+      → containment.Counterexample (LegalForBothAsRead (codes_of r) (schema_of r) (dependencies_of r) (joins_of r)) (query_at r p) (query_at r q)
       (containment.frozen_rows base (query_of (schema_of r) (as_query query))) (containment.frozen_head base (query_of (schema_of r) (as_query query)))
 
 -- The arrays of a comparison are as long as their types say
@@ -121,7 +122,16 @@ ComparisonShape (Ok (Mapped images)) = length images ≡ 96
 ComparisonShape (Ok (Apart query)) = shaped_tableau query ≡ true
 ComparisonShape (Err refusal) = Unit {0}
 
--- What checking a mapping for places p and q promises: the refusal, or yes exactly when the images are a mapping from q's query to p's query as it is stored.
--- `maps_to` is a test that says yes exactly to the mappings (`minimization/specs/Checking`)
+-- The images of some variables as they are read, the first image being that of variable v. The image of any other variable means nothing, and stays
+unfoldable pub read_images : List CodePair → List ℕ → ℕ → List theory.Entry → List theory.Entry
+read_images ps among v [] = []
+read_images ps among v (e ∷ images) = cond (theory.member v among) (read_entry ps e) e ∷ read_images ps among (suc v) images
+
+-- The images of a mapping from the query of a place, as they are read
+abbrev pub images_at : Record → ℕ → List Cell → List theory.Entry
+images_at r q images = read_images (codes_of r) (theory.variables (query_at r q)) 0 (entries_of images)
+
+-- What checking a mapping for places p and q promises: the refusal, or yes exactly when the images are a mapping from q's query to p's query, which is not
+-- chased. Queries and images are as they are read. `maps_to` is a test that says yes exactly to the mappings (`minimization/specs/Checking`)
 abbrev pub CheckedMapping : Record → ℕ → ℕ → List Cell → Result Bool Refusal → Type 0
-CheckedMapping r p q images c = reply_of c ≡ reply (pair_refusal r p q) (maps_to (query_at r q) (query_at r p) (entries_of images))
+CheckedMapping r p q images c = reply_of c ≡ reply (pair_refusal r p q) (maps_to (query_at r q) (query_at r p) (images_at r q images))

@@ -6,7 +6,7 @@ use Rattle.theory.specs.Chase.{chase}
 use Rattle.lists.specs.Tests.{every}
 use Rattle.joins.specs.JoinChase.{Outcome, chased, JoinChases}
 use Rattle.query.specs.declared.Cell.{Cell}
-use Rattle.query.specs.View.{images_of}
+use Rattle.minimization.specs.Checking.{image_at}
 use Rattle.query.specs.Rule.{shaped_join}
 use Rattle.record.specs.declared.Record.{Record}
 use Rattle.record.specs.View.{schema_of, dependencies_of, joins_of}
@@ -15,20 +15,20 @@ use Rattle.record.specs.Calls.{query_at}
 use Rattle.comparison.specs.declared.Verdict.{Verdict}
 use Rattle.comparison.specs.declared.Verdict.TheVariants.{Mapped}
 use Rattle.refusals.specs.declared.Refusal.{Refusal}
-use Rattle.comparison.specs.Comparison.{pair_refusal, outcome_at, Compared, ComparisonShape, CheckedMapping}
+use Rattle.comparison.specs.Comparison.{pair_refusal, outcome_at, images_at, Compared, ComparisonShape, CheckedMapping}
 
--- Checking says yes exactly when the two places are not refused and the images are a mapping from q's query to p's, both as they are stored. A mapping takes
+-- Checking says yes exactly when the two places are not refused and the images are a mapping from q's query to p's, all as they are read. A mapping takes
 -- each variable that q's query does not have to constant 0
 abbrev pub CheckMeans : Type 0
 CheckMeans =
     (r : Record) (p q : ℕ) (images : List Cell) (c : Result Bool Refusal) → CheckedMapping r p q images c
-    → (c ≡ Ok true) ↔ ((pair_refusal r p q ≡ none) × IsMapping (query_at r q) (query_at r p) (images_of images))
+    → (c ≡ Ok true) ↔ ((pair_refusal r p q ≡ none) × IsMapping (query_at r q) (query_at r p) (image_at (images_at r q images)))
 
 -- It says no exactly when they are not refused and the images are no such mapping
 abbrev pub CheckDenies : Type 0
 CheckDenies =
     (r : Record) (p q : ℕ) (images : List Cell) (c : Result Bool Refusal) → CheckedMapping r p q images c
-    → (c ≡ Ok false) ↔ ((pair_refusal r p q ≡ none) × (IsMapping (query_at r q) (query_at r p) (images_of images) → ⊥))
+    → (c ≡ Ok false) ↔ ((pair_refusal r p q ≡ none) × (IsMapping (query_at r q) (query_at r p) (image_at (images_at r q images)) → ⊥))
 
 -- Two comparisons of the same places, with arrays as long as their types say, are the same but for the mapping
 abbrev pub ComparedOnce : Type 0

@@ -1,2 +1,3 @@
 -- What the private functions promise.
 pub mod Pairs
+pub mod Images

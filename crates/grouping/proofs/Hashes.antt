@@ -6,14 +6,14 @@ use mathlib.Core.List.{List, [], ◌∷◌}
 use Prim.Native.Nat.{ℕ, zero, suc, ◌+◌, ◌-◌, ◌*◌, ◌/◌, ◌%◌, ◌^◌, ◌≤◌, ◌<◌}
 use native.Mathlib.Nat.{mod-lt, div-lt_iff_lt-mul, pow-suc}
 use native.Mathlib.Omega.{arith}
-use lib.ListN.{drop, get_or}
-use lib.Seq.{get_or-take, get_or-drop}
+use lib.ListN.{length, get_or}
 use Rattle.theory.specs.Query.{Row, column}
 use Rattle.theory.specs.Database.{Dependency, Agree}
+use Rattle.theory.specs.Codes.{CodePair, read_code}
 use Rattle.query.specs.View.{columns_from, columns_of}
 use Rattle.query.proofs.Stored.{no-columns}
-use Rattle.words.specs.internal.Rows.{span_at}
-use Rattle.words.proofs.Columns.{columns-short, columns-set, columns-clear}
+use Rattle.words.specs.internal.Rows.{span_read}
+use Rattle.words.proofs.Columns.{columns-short, columns-set, columns-clear, span-value}
 use Rattle.grouping.specs.internal.Hash.{hash_from, spread}
 use Rattle.grouping.specs.internal.Groups.{Together}
 
@@ -40,18 +40,12 @@ mask-half (suc n) mask some below =
     let e : suc n - 1 ≡ n = omega arith in
     rw e ((div-lt_iff_lt-mul {k = 2} {x = mask} {y = 2 ^ n} (omega arith)).1 (rw (pow-suc 2 n) at below))
 
--- column c of the row at a word
-pub span_value : (width : ℕ) (words : List ℕ) (at c : ℕ) → c < width → column 0 (span_at width words at) c ≡ get_or words (at + 1 + c) 0
-span_value width words at c h =
-    let e : suc at + c ≡ at + 1 + c = omega arith in
-    get_or-take width (drop (suc at) words) c 0 h ∙ get_or-drop (suc at) words c 0 ∙ ap (λ (n : ℕ). get_or words n 0) e
-
-module _ (factor width : ℕ) (words : List ℕ) (a : ℕ) where
+module _ (codes : List CodePair) (factor width : ℕ) (words : List ℕ) (a : ℕ) where
   -- the hash with the columns of a mask that starts at column c
   pub hash_at : ℕ → ℕ → ℕ → ℕ
-  hash_at c mask h = hash_from factor (columns_from c (width - c) mask) h (span_at width words a)
+  hash_at c mask h = hash_from factor (columns_from c (width - c) mask) h (span_read codes width words a)
 
-  pub hash-start : (mask : ℕ) → width ≤ 8 → mask < 2 ^ width → hash_from factor (columns_of mask) 0 (span_at width words a) ≡ hash_at 0 mask 0
+  pub hash-start : (mask : ℕ) → width ≤ 8 → mask < 2 ^ width → hash_from factor (columns_of mask) 0 (span_read codes width words a) ≡ hash_at 0 mask 0
   unfolding hash_at
   hash-start mask h below =
       let e : width - 0 ≡ width = omega arith in
@@ -64,14 +58,15 @@ module _ (factor width : ℕ) (words : List ℕ) (a : ℕ) where
       let f : c + 1 ≡ suc c = omega arith in
       rw (e, columns-clear c (width - (c + 1)) mask clear, f)
 
-  pub hash-mix : (c mask h : ℕ) → c < width → mask % 2 ≡ 1 → hash_at c mask h ≡ hash_at (c + 1) (mask / 2) ((h * factor + get_or words (a + 1 + c) 0) % 4294967296)
+  pub hash-mix : (c mask h : ℕ) → c < width → a + 1 + width ≤ length words → mask % 2 ≡ 1
+      → hash_at c mask h ≡ hash_at (c + 1) (mask / 2) ((h * factor + read_code codes (get_or words (a + 1 + c) 0)) % 4294967296)
   unfolding hash_at hash_from
-  hash-mix c mask h l bit =
+  hash-mix c mask h l room bit =
       let e : width - c ≡ suc (width - (c + 1)) = omega arith in
       let f : c + 1 ≡ suc c = omega arith in
       rw (e, columns-set c (width - (c + 1)) mask bit, f)
-      (ap (λ (x : ℕ). hash_from factor (columns_from (suc c) (width - suc c) (mask / 2)) ((h * factor + x) % 4294967296) (span_at width words a))
-      (span_value width words a c l))
+      (ap (λ (x : ℕ). hash_from factor (columns_from (suc c) (width - suc c) (mask / 2)) ((h * factor + x) % 4294967296) (span_read codes width words a))
+      (span-value codes width words a c l room))
 
   pub hash-end : (c mask h : ℕ) → mask ≡ 0 → hash_at c mask h ≡ h
   unfolding hash_at hash_from
@@ -79,15 +74,15 @@ module _ (factor width : ℕ) (words : List ℕ) (a : ℕ) where
 
   -- one column passed: its value is mixed in if it is in the mask
   abbrev pub Mixed : ℕ → ℕ → ℕ → ℕ → Type 0
-  Mixed c mask h new = ((mask % 2 ≡ 1) × (new ≡ (h * factor + get_or words (a + 1 + c) 0) % 4294967296)) ⊎ ((mask % 2 ≡ 1 → ⊥) × (new ≡ h))
+  Mixed c mask h new = ((mask % 2 ≡ 1) × (new ≡ (h * factor + read_code codes (get_or words (a + 1 + c) 0)) % 4294967296)) ⊎ ((mask % 2 ≡ 1 → ⊥) × (new ≡ h))
 
-  pub hash-on : (c mask h new : ℕ) → c < width → Mixed c mask h new → hash_at c mask h ≡ hash_at (c + 1) (mask / 2) new
-  hash-on c mask h new l =
-      ⊎_elim (λ w. hash-mix c mask h l w.0 ∙ ap (hash_at (c + 1) (mask / 2)) (sym w.1))
+  pub hash-on : (c mask h new : ℕ) → c < width → a + 1 + width ≤ length words → Mixed c mask h new → hash_at c mask h ≡ hash_at (c + 1) (mask / 2) new
+  hash-on c mask h new l room =
+      ⊎_elim (λ w. hash-mix c mask h l room w.0 ∙ ap (hash_at (c + 1) (mask / 2)) (sym w.1))
       (λ w. hash-skip c mask h l w.0 ∙ ap (hash_at (c + 1) (mask / 2)) (sym w.1))
 
   pub hash-low : (c mask h new : ℕ) → h < 4294967296 → Mixed c mask h new → new < 4294967296
   hash-low c mask h new l =
-      ⊎_elim (λ w. let e : new ≡ (h * factor + get_or words (a + 1 + c) 0) % 4294967296 = w.1 in
-      omega (arith, mod-lt (h * factor + get_or words (a + 1 + c) 0) {m = 4294967296} (omega arith)))
+      ⊎_elim (λ w. let e : new ≡ (h * factor + read_code codes (get_or words (a + 1 + c) 0)) % 4294967296 = w.1 in
+      omega (arith, mod-lt (h * factor + read_code codes (get_or words (a + 1 + c) 0)) {m = 4294967296} (omega arith)))
       (λ w. let e : new ≡ h = w.1 in omega arith)

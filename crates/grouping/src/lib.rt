@@ -10,14 +10,16 @@
 
 ghost use Rattle.std.specs.Prelude.{◌≡◌, true, ℕ, ◌+◌, ◌*◌, ◌^◌, ◌≤◌, ◌<◌, length, get_or, set};
 ghost use Rattle.query.specs.View.{dependency_of};
+ghost use Rattle.codes.specs.internal.Codes.{codes_in};
 ghost use Rattle.words.specs.Words.{spells_rows, database_of};
-ghost use Rattle.words.specs.internal.Rows.{span_at, Next};
+ghost use Rattle.words.specs.internal.Rows.{span_read, Next};
 ghost use Rattle.words.specs.internal.Found.{Testable};
 ghost use Rattle.grouping.specs.internal.Chains.{Chained};
 ghost use Rattle.grouping.specs.internal.Leaders.{link_of, sought_of, BesideSays, with_leader};
 ghost use Rattle.grouping.specs.internal.Groups.{Key};
 ghost use Rattle.grouping.specs.internal.Walked.{Located, Walked, end_at, Ends};
 
+use codes::pairs::Codes;
 use query::Dependency;
 use words::Position;
 
@@ -56,10 +58,17 @@ enum Beside {
 }
 
 // What is compared of the row at `a`. Neighbouring values of one column are in neighbouring buckets, and are their own tags.
-fn sought_of(words: &[u32], width: usize, d: Dependency, a: usize, buckets: usize) -> Sought
+fn sought_of(
+    codes: &Codes,
+    words: &[u32],
+    width: usize,
+    d: Dependency,
+    a: usize,
+    buckets: usize,
+) -> Sought
     requires width_in_bounds { a + 1 + width ≤ length words.now }
     requires width_bound { (width ≤ 8) × (d.left < 2 ^ width) × (d.right < width) × (0 < buckets) }
-    ensures value { result ≡ sought_of buckets (dependency_of d) (span_at width words.now a) }
+    ensures value { result ≡ sought_of buckets (dependency_of d) (span_read (codes_in codes.now) width words.now a) }
     ensures bucket_lt_buckets { result.bucket < buckets }
 {
     let mut h: u64 = 0;
@@ -69,7 +78,7 @@ fn sought_of(words: &[u32], width: usize, d: Dependency, a: usize, buckets: usiz
     // Kept as it is: the loop takes the set apart as it goes; a `for` to the last column would ask `leading_zeros` for that, and shift at each.
     while left != 0 {
         if left % 2 == 1 {
-            let x = words::value(words, a, c) as u64;
+            let x = words::value(codes, words, a, c) as u64;
             h = (h * 1000003 + x) % 4294967296;
             tag = (tag * 2654435761 + x) % 4294967296;
         }
@@ -80,7 +89,7 @@ fn sought_of(words: &[u32], width: usize, d: Dependency, a: usize, buckets: usiz
     Sought {
         bucket: ((h + h / n * 2654435761) % n) as usize,
         tag: tag as u32,
-        right: words::value(words, a, d.right as usize),
+        right: words::value(codes, words, a, d.right as usize),
     }
 }
 
@@ -125,6 +134,7 @@ fn enter(heads: &mut [u32], nodes: &mut [u32], count: usize, sought: Sought, num
 
 // Passes the row `row`. If it is of the dependency's relation, it is compared with the leader of its group, or is a leader.
 fn step(
+    codes: &Codes,
     schema: &[u8],
     words: &[u32],
     d: Dependency,
@@ -135,16 +145,16 @@ fn step(
 ) -> Walk
     requires testable { Testable schema.now d }
     requires at_in_bounds { row.at < length words.now }
-    requires walked { Walked schema.now words.now d row walk heads.old nodes.old }
+    requires walked { Walked (codes_in codes.now) schema.now words.now d row walk heads.old nodes.old }
     ensures { (after : ℕ) → Next schema.now words.now row.at after
-        → Walked schema.now words.now d (record { at = after; number = row.number + 1 }) result heads.new nodes.new }
+        → Walked (codes_in codes.now) schema.now words.now d (record { at = after; number = row.number + 1 }) result heads.new nodes.new }
 {
     let index = d.relation as usize;
     if words[row.at] as usize != index {
         return walk;
     }
     let width = schema[index] as usize;
-    let sought = sought_of(words, width, d, row.at, heads.len());
+    let sought = sought_of(codes, words, width, d, row.at, heads.len());
     match compare(sought, heads, nodes, walk.count) {
         Beside::Same => Walk { key: false, ..walk },
         Beside::Differs(p) => Walk {
@@ -195,6 +205,7 @@ fn end_at(row: Option<Position>) -> End<Position>
 // A row before which none is the first of a broken pair, if there is a broken pair. With room for all leaders it is, but for rows that share a bucket
 // and a tag by chance, the first row of the first broken pair, and a key is seen; without a bucket it is the first row.
 pub fn skip(
+    codes: &Codes,
     schema: &[u8],
     words: &[u32],
     d: Dependency,
@@ -203,7 +214,7 @@ pub fn skip(
 ) -> End<Position>
     requires testable { Testable schema.now d }
     requires words_value { spells_rows schema.now words.now ≡ true }
-    ensures { Ends schema.now words.now d result }
+    ensures { Ends (codes_in codes.now) schema.now words.now d result }
 {
     if heads.is_empty() {
         return end_at(words::each_row(schema, words, words::FIRST).next());
@@ -219,7 +230,7 @@ pub fn skip(
         key: true,
     };
     for row in words::each_row(schema, words, words::FIRST) {
-        walk = step(schema, words, d, row, walk, used, nodes);
+        walk = step(codes, schema, words, d, row, walk, used, nodes);
     }
     if walk.key {
         return End::Distinct;

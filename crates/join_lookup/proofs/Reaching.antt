@@ -17,6 +17,7 @@ use Rattle.join_lookup.specs.declared.Index.{Index}
 use Rattle.join_lookup.specs.internal.Starts.{start_of, row_count, BeginsAt, row_of, Has, Known}
 use Rattle.join_lookup.specs.internal.Tables.{bucket_of, bucket_at, Leads, Table, Reaches, FirstWith}
 use Rattle.join_lookup.proofs.Starting.{start-less, start-one, start-inside, inside-start, of_length}
+use Rattle.theory.specs.Codes.{CodePair}
 use Rattle.join_lookup.proofs.Bits.{BitOf, bit-column}
 
 -- ---- rows with the same values have the same bucket
@@ -40,19 +41,19 @@ mixed-same h columns (x ∷ xs) (y ∷ ys) e same =
         ∙ rest ((h * 2654435769 + y) % 4294967296)
     go false is rest = rest h
 
-module _ (schema words : List ℕ) (good : spells_rows schema words ≡ true) (x : Index) (k : Known schema x) where
+module _ (codes : List CodePair) (schema words : List ℕ) (good : spells_rows schema words ≡ true) (x : Index) (k : Known schema x) where
   pub bucket-same : (columns : ℕ) (values : List ℕ) (p : ℕ) → columns < 256 → x.width ≤ length values → p < row_count schema words
-      → Has schema words x columns values p → bucket_at schema words x columns p ≡ bucket_of x.buckets columns (take x.width values)
+      → Has codes schema words x columns values p → bucket_at codes schema words x columns p ≡ bucket_of x.buckets columns (take x.width values)
   bucket-same columns values p small wide h has =
-      let size : length (row_of schema words p).values ≡ length (take x.width values) =
-      of_length schema words good x k p h has.0 ∙ sym (length-take-le x.width values wide) in
+      let size : length (row_of codes schema words p).values ≡ length (take x.width values) =
+      of_length codes schema words good x k p h has.0 ∙ sym (length-take-le x.width values wide) in
       ap (λ (m : ℕ). ((m * 2654435769) % 4294967296 * x.buckets) / 4294967296)
-      (mixed-same 0 columns (row_of schema words p).values (take x.width values) size (λ c l bit. has.1 c (bit-column columns c small bit)))
+      (mixed-same 0 columns (row_of codes schema words p).values (take x.width values) size (λ c l bit. has.1 c (bit-column columns c small bit)))
 
   module _ (t columns set : ℕ) (values : List ℕ) where
     -- ---- without tables
 
-    pub reach-first : x.buckets ≡ 0 → Reaches schema words x t columns set values 0 0
+    pub reach-first : x.buckets ≡ 0 → Reaches codes schema words x t columns set values 0 0
     unfolding start_of
     reach-first none =
         record {
@@ -64,8 +65,8 @@ module _ (schema words : List ℕ) (good : spells_rows schema words ≡ true) (x
           passed = λ p low high. absurd (omega arith);
         }
 
-    pub reach-next : x.buckets ≡ 0 → (from at r : ℕ) (g : Reaches schema words x t columns set values from at) → g.row < row_count schema words
-        → r ≡ start_of schema words (suc g.row) → Reaches schema words x t columns set values (suc g.row) r
+    pub reach-next : x.buckets ≡ 0 → (from at r : ℕ) (g : Reaches codes schema words x t columns set values from at) → g.row < row_count schema words
+        → r ≡ start_of schema words (suc g.row) → Reaches codes schema words x t columns set values (suc g.row) r
     reach-next none from at r g h e =
         record {
           row = suc g.row;
@@ -79,8 +80,8 @@ module _ (schema words : List ℕ) (good : spells_rows schema words ≡ true) (x
     -- ---- with tables
 
     module _ (small : columns < 256) (wide : x.width ≤ length values) where
-      from-leads : (from r : ℕ) → Leads schema words x t columns set (bucket_of x.buckets columns (take x.width values)) from r
-          → Reaches schema words x t columns set values from r
+      from-leads : (from r : ℕ) → Leads codes schema words x t columns set (bucket_of x.buckets columns (take x.width values)) from r
+          → Reaches codes schema words x t columns set values from r
       from-leads from r l =
           record {
             row = l.row;
@@ -92,25 +93,26 @@ module _ (schema words : List ℕ) (good : spells_rows schema words ≡ true) (x
           }
 
       pub reach-head : (heads nodes : List ℕ) (b : ℕ) → b ≡ bucket_of x.buckets columns (take x.width values) → b < x.buckets
-          → Table schema words x t columns set 0 heads nodes → Reaches schema words x t columns set values 0 (get_or heads (5 * b + t) 0)
+          → Table codes schema words x t columns set 0 heads nodes → Reaches codes schema words x t columns set values 0 (get_or heads (5 * b + t) 0)
       reach-head heads nodes b e h table =
           from-leads 0 (get_or heads (5 * b + t) 0)
-          (subst (λ (n : ℕ). Leads schema words x t columns set n 0 (get_or heads (5 * b + t) 0)) e (table.head b h))
+          (subst (λ (n : ℕ). Leads codes schema words x t columns set n 0 (get_or heads (5 * b + t) 0)) e (table.head b h))
 
-      pub reach-link : 0 < x.buckets → (heads nodes : List ℕ) (from at : ℕ) → Table schema words x t columns set 0 heads nodes
-          → (g : Reaches schema words x t columns set values from at) → g.row < row_count schema words
-          → Reaches schema words x t columns set values (suc g.row) (get_or nodes (6 * at + 1 + t) 0)
+      pub reach-link : 0 < x.buckets → (heads nodes : List ℕ) (from at : ℕ) → Table codes schema words x t columns set 0 heads nodes
+          → (g : Reaches codes schema words x t columns set values from at) → g.row < row_count schema words
+          → Reaches codes schema words x t columns set values (suc g.row) (get_or nodes (6 * at + 1 + t) 0)
       reach-link some heads nodes from at table g h =
           let here = g.here some h in
           let l = table.link g.row (omega arith) h here.0 in
           from-leads (suc g.row) (get_or nodes (6 * at + 1 + t) 0)
-          (subst (λ (n : ℕ). Leads schema words x t columns set n (suc g.row) (get_or nodes (6 * at + 1 + t) 0)) here.1
-          (subst (λ (n : ℕ). Leads schema words x t columns set (bucket_at schema words x columns g.row) (suc g.row) (get_or nodes (6 * n + 1 + t) 0))
+          (subst (λ (n : ℕ). Leads codes schema words x t columns set n (suc g.row) (get_or nodes (6 * at + 1 + t) 0)) here.1
+          (subst (λ (n : ℕ). Leads codes schema words x t columns set (bucket_at codes schema words x columns g.row) (suc g.row)
+          (get_or nodes (6 * n + 1 + t) 0))
           (sym g.place) l))
 
   -- Where a row begins the way has not ended
   pub reach-inside : (t columns set : ℕ) (values : List ℕ) (from at p : ℕ) → BeginsAt schema words at p
-      → (g : Reaches schema words x t columns set values from at) → (g.row ≡ p) × (g.row < row_count schema words)
+      → (g : Reaches codes schema words x t columns set values from at) → (g.row ≡ p) × (g.row < row_count schema words)
   reach-inside t columns set values from at p b g =
       let e : g.row ≡ p = start-one schema words g.row p (sym g.place ∙ b.0) in
       (e, omega (arith, b.1))
@@ -119,25 +121,27 @@ module _ (schema words : List ℕ) (good : spells_rows schema words ≡ true) (x
 
   -- On the way through table 0 no row passed has the values
   abbrev pub Passing : ℕ → List ℕ → ℕ → Type 0
-  Passing columns values at = (from : ℕ) × Reaches schema words x 0 columns 0 values from at × ((p : ℕ) → p < from → Has schema words x columns values p → ⊥)
+  Passing columns values at =
+      (from : ℕ) × Reaches codes schema words x 0 columns 0 values from at × ((p : ℕ) → p < from → Has codes schema words x columns values p → ⊥)
 
   module _ (columns : ℕ) (values : List ℕ) (at : ℕ) (w : Passing columns values at) where
-    pass-before : (p : ℕ) → p < w.1.row → Has schema words x columns values p → ⊥
+    pass-before : (p : ℕ) → p < w.1.row → Has codes schema words x columns values p → ⊥
     pass-before p l has = ⊎_elim (λ low. w.2 p low has) (λ high. (w.1.passed p high l has).0 refl) (below-or-past p w.0)
 
     pub pass-begins : at < length words → BeginsAt schema words at w.1.row
     pass-begins h = (w.1.place, inside-start schema words good w.1.row w.1.inside (omega (arith, w.1.place)))
 
-    pub pass-next : (Has schema words x columns values w.1.row → ⊥) → (r : ℕ) → Reaches schema words x 0 columns 0 values (suc w.1.row) r
+    pub pass-next : (Has codes schema words x columns values w.1.row → ⊥) → (r : ℕ) → Reaches codes schema words x 0 columns 0 values (suc w.1.row) r
         → Passing columns values r
     pass-next not-here r g = (
       suc w.1.row,
       g,
       λ p l has. ⊎_elim (λ low. pass-before p low has)
-          (λ high. let e : p ≡ w.1.row = omega arith in not-here (subst (λ (n : ℕ). Has schema words x columns values n) e has)) (below-or-past p w.1.row),
+          (λ high. let e : p ≡ w.1.row = omega arith in not-here (subst (λ (n : ℕ). Has codes schema words x columns values n) e has))
+          (below-or-past p w.1.row),
     )
 
-    pub pass-end : length words ≤ at → FirstWith schema words x columns values at
+    pub pass-end : length words ≤ at → FirstWith codes schema words x columns values at
     pass-end past =
         record {
           row = w.1.row;
@@ -149,6 +153,6 @@ module _ (schema words : List ℕ) (good : spells_rows schema words ≡ true) (x
 
   -- A later row begins later
   pub reach-less : (t columns set : ℕ) (values : List ℕ) (row at r : ℕ) → at ≡ start_of schema words row
-      → Reaches schema words x t columns set values (suc row) r → at < r
+      → Reaches codes schema words x t columns set values (suc row) r → at < r
   reach-less t columns set values row at r e g =
       let l = start-less schema words row g.row (omega (arith, g.after)) in omega (arith, e, g.place)

@@ -1,4 +1,4 @@
--- Where rows begin: 1. each row in its place, 2. the rows of the relation that is tested. Assumes nothing.
+-- Where rows begin: 1. each row in its place, 2. the rows as they are read, 3. those of the relation that is tested. Assumes nothing.
 use mathlib.Core.Path.{◌≡◌, refl, sym, ◌∙◌, ap, subst}
 use mathlib.Core.Logic.{⊎_elim}
 use mathlib.Core.Bool.{true}
@@ -12,12 +12,18 @@ use Rattle.lists.proofs.Tests.{below-or-past}
 use Rattle.theory.specs.Query.{Row, column, FitsSchema}
 use Rattle.theory.specs.Database.{Database}
 use Rattle.words.specs.Words.{rows_from, spells_rows, database_of}
-use Rattle.words.specs.internal.Rows.{span_at, row_at, Next}
+use Rattle.words.specs.Broken.{nth_row}
+use Rattle.words.specs.internal.Rows.{span_read, row_at, row_read, Next}
 use Rattle.words.proofs.Spelling.{next_row, rows-spelled}
 use Rattle.grouping.specs.internal.Walked.{RowBegins}
-use Rattle.grouping.proofs.Passing.{placed-start, placed-next, placed_row}
-use Rattle.grouping.proofs.Hashes.{span_value}
+use Rattle.grouping.proofs.Passing.{placed-start, placed-next, placed_row, placed_read}
 use Rattle.join_lookup.specs.declared.Index.{Index}
+use Rattle.theory.specs.Codes.{CodePair}
+use Rattle.theory.specs.Codes.{read_code}
+use Rattle.words.specs.Words.{database_read}
+use Rattle.words.proofs.Reading.{read-length}
+use Rattle.words.proofs.Reading.{read-sound}
+use Rattle.words.proofs.Columns.{span-value}
 use Rattle.join_lookup.specs.internal.Starts.{end_of, start_of, row_count, row_of, row_with, Of, Known}
 
 -- ---- 1. rows in their places
@@ -71,8 +77,9 @@ module _ (schema words : List ℕ) (good : spells_rows schema words ≡ true) wh
   unfolding start_of
   start-next p h = next-from (start_of schema words p) p (begins p (omega arith)) h
 
-  pub start-row : (p : ℕ) → p < row_count schema words → row_of schema words p ≡ row_at schema words (start_of schema words p)
-  start-row p h = placed_row schema words (start_of schema words p) (start_of schema words (suc p)) p (begins p (omega arith)) (start-next p h)
+  -- The row as it is written
+  pub start-written : (p : ℕ) → p < row_count schema words → nth_row (database_of schema words) p ≡ row_at schema words (start_of schema words p)
+  start-written p h = placed_row schema words (start_of schema words p) (start_of schema words (suc p)) p (begins p (omega arith)) (start-next p h)
 
   -- After the last row the words end
   pub start-end : start_of schema words (row_count schema words) ≡ length words
@@ -102,37 +109,47 @@ module _ (schema words : List ℕ) (good : spells_rows schema words ≡ true) wh
   outside-start p h past =
       ⊎_elim (λ l. absurd (let i = start-inside p l in omega arith)) (λ l. omega arith) (below-or-past p (row_count schema words))
 
+-- ---- 2. rows as they are read
+
+module _ (codes : List CodePair) (schema words : List ℕ) (good : spells_rows schema words ≡ true) where
+  pub start-row : (p : ℕ) → p < row_count schema words → row_of codes schema words p ≡ row_read codes schema words (start_of schema words p)
+  start-row p h =
+      placed_read schema words codes (start_of schema words p) (start_of schema words (suc p)) p (begins schema words good p (omega arith))
+      (start-next schema words good p h)
+
   -- The first word of a row is its relation
-  pub start-relation : (p : ℕ) → p < row_count schema words → (row_of schema words p).relation ≡ get_or words (start_of schema words p) 0
+  pub start-relation : (p : ℕ) → p < row_count schema words → (row_of codes schema words p).relation ≡ get_or words (start_of schema words p) 0
   start-relation p h = ap (λ (r : Row ℕ). r.relation) (start-row p h)
 
-  pub row_fits : (p : ℕ) → p < row_count schema words → FitsSchema schema (row_of schema words p)
-  row_fits p h = (rows-spelled schema words good).1 (row_of schema words p) (get_or-in (database_of schema words) p (record { relation = 0; values = [] }) h)
+  pub row_fits : (p : ℕ) → p < row_count schema words → FitsSchema schema (row_of codes schema words p)
+  row_fits p h =
+      read-sound codes schema (database_of schema words) (rows-spelled schema words good).1 (row_of codes schema words p)
+      (get_or-in (database_read codes schema words) p (record { relation = 0; values = [] }) (omega (arith, h, read-length codes (database_of schema words))))
 
-  -- ---- 2. rows of the relation
+  -- ---- 3. rows of the relation
 
-  module _ (x : Index) (k : Known schema x) (p : ℕ) (h : p < row_count schema words) (of : Of schema words x p) where
+  module _ (x : Index) (k : Known schema x) (p : ℕ) (h : p < row_count schema words) (of : Of codes schema words x p) where
     of_width : get_or schema (get_or words (start_of schema words p) 0) 0 ≡ x.width
     of_width = ap (λ (r : ℕ). get_or schema r 0) (sym (start-relation p h) ∙ of) ∙ sym k.width
 
     pub of_room : start_of schema words p + 1 + x.width ≤ length words
-    of_room = let n = start-next p h in let e : start_of schema words (suc p) ≡ start_of schema words p + 1 + x.width =
+    of_room = let n = start-next schema words good p h in let e : start_of schema words (suc p) ≡ start_of schema words p + 1 + x.width =
         n.place ∙ ap (λ (w : ℕ). start_of schema words p + 1 + w) of_width in omega (arith, n.fits)
 
-    pub of_row : row_of schema words p ≡ span_at x.width words (start_of schema words p)
-    of_row = start-row p h ∙ ap (λ (w : ℕ). span_at w words (start_of schema words p)) of_width
+    pub of_row : row_of codes schema words p ≡ span_read codes x.width words (start_of schema words p)
+    of_row = start-row p h ∙ ap (λ (w : ℕ). span_read codes w words (start_of schema words p)) of_width
 
-    pub of_length : length (row_of schema words p).values ≡ x.width
+    pub of_length : length (row_of codes schema words p).values ≡ x.width
     of_length = (row_fits p h).1 ∙ ap (λ (r : ℕ). get_or schema r 0) of ∙ sym k.width
 
-    pub of_values : (row_of schema words p).values ≡ take x.width (drop (start_of schema words p + 1) words)
-    of_values = ap (λ (r : Row ℕ). r.values) of_row ∙ ap (λ (n : ℕ). take x.width (drop n words)) (sym (add-one (start_of schema words p)))
+    pub of_values : (row_of codes schema words p).values ≡ (span_read codes x.width words (start_of schema words p)).values
+    of_values = ap (λ (r : Row ℕ). r.values) of_row
 
-    pub of-column : (c : ℕ) → c < x.width → column 0 (row_of schema words p) c ≡ get_or words (start_of schema words p + 1 + c) 0
-    of-column c l = ap (λ (r : Row ℕ). column 0 r c) of_row ∙ span_value x.width words (start_of schema words p) c l
+    pub of-column : (c : ℕ) → c < x.width → column 0 (row_of codes schema words p) c ≡ read_code codes (get_or words (start_of schema words p + 1 + c) 0)
+    of-column c l = ap (λ (r : Row ℕ). column 0 r c) of_row ∙ span-value codes x.width words (start_of schema words p) c l of_room
 
-    pub of-past : (c : ℕ) → x.width ≤ c → column 0 (row_of schema words p) c ≡ 0
-    of-past c l = get_or-eq_default (row_of schema words p).values 0 (omega (arith, of_length))
+    pub of-past : (c : ℕ) → x.width ≤ c → column 0 (row_of codes schema words p) c ≡ 0
+    of-past c l = get_or-eq_default (row_of codes schema words p).values 0 (omega (arith, of_length))
 
 -- A column past the width of the relation has no value
 pub with-past : (x : Index) (values : List ℕ) (c : ℕ) → x.width ≤ c → column 0 (row_with x values) c ≡ 0

@@ -1,12 +1,16 @@
-// Rows of a relation, looked up by their values in some columns: in tables, which are hash chains in lent slices, or, without tables, in the words of the
-// database: slower, and never wrong. Table 0 has all rows, by the columns of some set; table k + 1 those for set k of a join dependency, by columns that sets
-// before it have, and of rows with the same values in the set only the first. Chains go from earlier to later rows.
+// Rows of a relation, looked up by their values in some columns as they are read: in tables, which are hash chains in lent slices, or, without tables, in the
+// words of the database: slower, and never wrong. Table 0 has all rows, by the columns of some set; table k + 1 those for set k of a join dependency, by
+// columns that sets before it have, and of rows with the same values in the set only the first. Chains go from earlier to later rows.
 #![tactic(auto)]
 
 ghost use Rattle.std.specs.Prelude.{◌≡◌, true, false, List, ℕ, suc, ◌+◌, ◌*◌, ◌/◌, ◌%◌, ◌^◌, ◌≤◌, ◌<◌, length, take, get_or};
+ghost use Rattle.theory.specs.Codes.{CodePair, read_code};
+ghost use Rattle.codes.specs.internal.Codes.{codes_in};
 ghost use Rattle.words.specs.Words.{spells_rows};
 ghost use Rattle.join_lookup.specs.internal.Starts.{start_of, row_count, BeginsAt, Has, Known};
 ghost use Rattle.join_lookup.specs.internal.Tables.{bucket_of, Room, Tabled, Reaches, FirstWith};
+
+use codes::pairs::Codes;
 
 // The relation whose rows are in the tables, its width, and the number of buckets; 0 where there are no tables.
 // Kept as it is: that an index is one for some words, and that a row begins at a word, are facts of these words, which are lent at each call.
@@ -19,17 +23,25 @@ pub struct Index {
 }
 
 // Whether the row at `at` is of the relation and has the given values in the columns of a set.
-pub fn has(words: &[u32], schema: &[u8], x: Index, at: usize, columns: u8, values: [u32; 8]) -> bool
+pub fn has(
+    codes: &Codes,
+    schema: &[u8],
+    words: &[u32],
+    x: Index,
+    at: usize,
+    columns: u8,
+    values: [u32; 8],
+) -> bool
     requires words_value { (spells_rows schema.now words.now ≡ true) × Known schema.now x }
     requires by_index { (p : ℕ) × BeginsAt schema.now words.now at p }
     ensures by_index_2 { (p : ℕ) → BeginsAt schema.now words.now at p → result ≡ true
-        → Has schema.now words.now x columns values p }
+        → Has (codes_in codes.now) schema.now words.now x columns values p }
     ensures by_index_3 { (p : ℕ) → BeginsAt schema.now words.now at p → result ≡ false
-        → Has schema.now words.now x columns values p → ⊥ }
+        → Has (codes_in codes.now) schema.now words.now x columns values p → ⊥ }
 {
     words[at] == x.relation
         && (0..x.width).all(|c| {
-            !words::has_column(columns, c) || words::value(words, at, c) == values[c]
+            !words::has_column(columns, c) || words::value(codes, words, at, c) == values[c]
         })
 }
 
@@ -53,8 +65,8 @@ pub fn bucket(columns: u8, values: [u32; 8], width: usize, buckets: usize) -> us
 // Where the rows with the given values in the columns of a set begin in table t, or the first row where there are no tables.
 // Kept as it is: a link is a word of lent memory, where the end of the words is no row: one comparison ends a chain; an Option would be made at each step.
 pub fn start(
-    words: &[u32],
     schema: &[u8],
+    words: &[u32],
     x: Index,
     t: usize,
     columns: u8,
@@ -63,8 +75,8 @@ pub fn start(
 ) -> usize
     requires words_value { (spells_rows schema.now words.now ≡ true) × Known schema.now x × (t < 5) }
     requires buckets_in_bounds { 0 < x.buckets → 5 * x.buckets ≤ length heads.now }
-    ensures { (set : ℕ) (nodes : List ℕ) → Tabled schema.now words.now x t columns set heads.now nodes
-        → Reaches schema.now words.now x t columns set values 0 result }
+    ensures { (pairs : List CodePair) (set : ℕ) (nodes : List ℕ) → Tabled pairs schema.now words.now x t columns set heads.now nodes
+        → Reaches pairs schema.now words.now x t columns set values 0 result }
 {
     if x.buckets == 0 {
         return 0;
@@ -76,8 +88,8 @@ pub fn start(
 // Where the next such row after the one at `at` begins, or the end of the words.
 // Kept as it is: a link is a word of lent memory, where the end of the words is no row: one comparison ends a chain; an Option would be made at each step.
 pub fn following(
-    words: &[u32],
     schema: &[u8],
+    words: &[u32],
     x: Index,
     t: usize,
     at: usize,
@@ -86,10 +98,10 @@ pub fn following(
     requires words_value { (spells_rows schema.now words.now ≡ true) × Known schema.now x × (t < 5) }
     requires by_index { (p : ℕ) × BeginsAt schema.now words.now at p }
     requires words_in_bounds { 0 < x.buckets → 6 * length words.now ≤ length nodes.now }
-    ensures { (columns set from : ℕ) (values heads : List ℕ) → columns < 256 → x.width ≤ length values
-        → Tabled schema.now words.now x t columns set heads nodes.now
-        → (g : Reaches schema.now words.now x t columns set values from at)
-        → Reaches schema.now words.now x t columns set values (suc g.row) result }
+    ensures { (pairs : List CodePair) (columns set from : ℕ) (values heads : List ℕ) → columns < 256 → x.width ≤ length values
+        → Tabled pairs schema.now words.now x t columns set heads nodes.now
+        → (g : Reaches pairs schema.now words.now x t columns set values from at)
+        → Reaches pairs schema.now words.now x t columns set values (suc g.row) result }
 {
     if x.buckets == 0 {
         return words::next(schema, words, at);
@@ -100,8 +112,9 @@ pub fn following(
 // The first row of the relation that has the given values in the columns of a set, by table 0; or the end of the words.
 // Kept as it is: a link is a word of lent memory, where the end of the words is no row: one comparison ends a chain; an Option would be made at each step.
 pub fn find(
-    words: &[u32],
+    codes: &Codes,
     schema: &[u8],
+    words: &[u32],
     x: Index,
     columns: u8,
     values: [u32; 8],
@@ -109,38 +122,45 @@ pub fn find(
     nodes: &[u32],
 ) -> usize
     requires words_value { (spells_rows schema.now words.now ≡ true) × Known schema.now x × Room words.now x heads.now nodes.now }
-    requires tabled { Tabled schema.now words.now x 0 columns 0 heads.now nodes.now }
-    ensures { FirstWith schema.now words.now x columns values result }
+    requires tabled { Tabled (codes_in codes.now) schema.now words.now x 0 columns 0 heads.now nodes.now }
+    ensures { FirstWith (codes_in codes.now) schema.now words.now x columns values result }
 {
-    let mut at = start(words, schema, x, 0, columns, values, heads);
+    let mut at = start(schema, words, x, 0, columns, values, heads);
     // Kept as it is: an iterator over a chain would be a struct more, with three clauses and their proofs, for this one loop.
     while at < words.len() {
-        if has(words, schema, x, at, columns, values) {
+        if has(codes, schema, words, x, at, columns, values) {
             return at;
         }
-        at = following(words, schema, x, 0, at, nodes);
+        at = following(schema, words, x, 0, at, nodes);
     }
     at
 }
 
 // The values with those of the row at `at` in the columns of a set.
-pub fn with_row(words: &[u32], x: Index, at: usize, set: u8, values: [u32; 8]) -> [u32; 8]
+pub fn with_row(
+    codes: &Codes,
+    words: &[u32],
+    x: Index,
+    at: usize,
+    set: u8,
+    values: [u32; 8],
+) -> [u32; 8]
     requires { (at + 1 + x.width ≤ length words.now) × (x.width ≤ 8) }
-    ensures by_index { (c : ℕ) → c < x.width → set / 2 ^ c % 2 ≡ 1 → get_or result c 0 ≡ get_or words.now (at + 1 + c) 0 }
+    ensures by_index { (c : ℕ) → c < x.width → set / 2 ^ c % 2 ≡ 1 → get_or result c 0 ≡ read_code (codes_in codes.now) (get_or words.now (at + 1 + c) 0) }
     ensures by_index_2 { (c : ℕ) → (set / 2 ^ c % 2 ≡ 1 → ⊥) → get_or result c 0 ≡ get_or values c 0 }
 {
     let mut row = values;
     // Kept as it is: c is a bit of the set, a place in `row` and a column of the row at `at`.
     for c in 0..x.width {
         if words::has_column(set, c) {
-            row[c] = words::value(words, at, c);
+            row[c] = words::value(codes, words, at, c);
         }
     }
     row
 }
 
 // The position of the row that begins at `at`.
-pub fn position_of(words: &[u32], schema: &[u8], at: usize) -> usize
+pub fn position_of(schema: &[u8], words: &[u32], at: usize) -> usize
     requires words_value { spells_rows schema.now words.now ≡ true }
     requires by_index { (p : ℕ) × (at ≡ start_of schema.now words.now p) × (p ≤ row_count schema.now words.now) }
     ensures { at ≡ start_of schema.now words.now result }

@@ -16,6 +16,7 @@ use Rattle.join_lookup.specs.internal.Tables.{Table}
 use Rattle.join_tables.specs.internal.Filling.{Threaded, Beside, Roomy}
 use Rattle.join_tables.specs.internal.Indexed.{filled_to, shared_at, Indexed}
 use Rattle.join_lookup.proofs.Starting.{start-less, start-one, start-end, start-le}
+use Rattle.theory.specs.Codes.{CodePair}
 use Rattle.join_tables.proofs.Entering.{beside_same, beside-then, table_beside, thread-beside, table_none}
 
 -- ---- 1. room
@@ -33,32 +34,33 @@ roomy-beside words x b r =
 -- ---- 2. one table
 
 -- Rows from the one at word `at` on are in table t, nothing else is changed
-pub record Entered (schema words : List ℕ) (x : Index) (t columns mask : ℕ) (old-heads old-nodes heads nodes : List ℕ) (at : ℕ) : Type 0 where
+pub record Entered (codes : List CodePair) (schema words : List ℕ) (x : Index) (t columns mask : ℕ) (old-heads old-nodes heads nodes : List ℕ)
+    (at : ℕ) : Type 0 where
   pub row : ℕ
   pub place : at ≡ start_of schema words row
   pub inside : row ≤ row_count schema words
   pub kept : Beside t old-heads old-nodes heads nodes
-  pub table : Table schema words x t columns mask row heads nodes
+  pub table : Table codes schema words x t columns mask row heads nodes
 
-module _ (schema words : List ℕ) (good : spells_rows schema words ≡ true) (x : Index) (t columns mask : ℕ) where
+module _ (codes : List CodePair) (schema words : List ℕ) (good : spells_rows schema words ≡ true) (x : Index) (t columns mask : ℕ) where
   pub entered-none : (heads nodes : List ℕ) → ((b : ℕ) → b < x.buckets → get_or heads (5 * b + t) 0 ≡ length words)
-      → Entered schema words x t columns mask heads nodes heads nodes (length words)
+      → Entered codes schema words x t columns mask heads nodes heads nodes (length words)
   entered-none heads nodes clear =
       record {
         row = row_count schema words;
         place = sym (start-end schema words good);
         inside = omega arith;
         kept = beside_same t heads nodes;
-        table = table_none schema words good x t columns mask heads nodes clear;
+        table = table_none codes schema words good x t columns mask heads nodes clear;
       }
 
-  module _ (old-heads old-nodes heads nodes : List ℕ) (at : ℕ) (e : Entered schema words x t columns mask old-heads old-nodes heads nodes at) where
+  module _ (old-heads old-nodes heads nodes : List ℕ) (at : ℕ) (e : Entered codes schema words x t columns mask old-heads old-nodes heads nodes at) where
     pub entered-inside : at ≤ length words
     entered-inside = omega (arith, e.place, start-le schema words good e.row e.inside)
 
-    pub entered_all : at ≡ 0 → Table schema words x t columns mask 0 heads nodes
+    pub entered_all : at ≡ 0 → Table codes schema words x t columns mask 0 heads nodes
     unfolding start_of
-    entered_all z = subst (λ (n : ℕ). Table schema words x t columns mask n heads nodes) (start-one schema words e.row 0 (sym e.place ∙ z)) e.table
+    entered_all z = subst (λ (n : ℕ). Table codes schema words x t columns mask n heads nodes) (start-one schema words e.row 0 (sym e.place ∙ z)) e.table
 
     module _ (low : t < 5) (thread : Threaded schema words old-nodes) (some : at ≡ 0 → ⊥) where
       entered-some : 0 < e.row
@@ -81,9 +83,9 @@ module _ (schema words : List ℕ) (good : spells_rows schema words ≡ true) (x
       entered-less = omega (arith, start-less schema words (e.row - 1) e.row (omega (arith, entered-some)), entered-begins.0, e.place)
 
       pub entered-next : (heads' nodes' : List ℕ) → Beside t heads nodes heads' nodes'
-          → ((p : ℕ) → BeginsAt schema words (get_or nodes (6 * (at - 1)) 0) p → Table schema words x t columns mask (suc p) heads nodes
-          → Table schema words x t columns mask p heads' nodes')
-          → Entered schema words x t columns mask old-heads old-nodes heads' nodes' (get_or nodes (6 * (at - 1)) 0)
+          → ((p : ℕ) → BeginsAt schema words (get_or nodes (6 * (at - 1)) 0) p → Table codes schema words x t columns mask (suc p) heads nodes
+          → Table codes schema words x t columns mask p heads' nodes')
+          → Entered codes schema words x t columns mask old-heads old-nodes heads' nodes' (get_or nodes (6 * (at - 1)) 0)
       entered-next heads' nodes' b more =
           record {
             row = e.row - 1;
@@ -92,31 +94,31 @@ module _ (schema words : List ℕ) (good : spells_rows schema words ≡ true) (x
             kept = beside-then t e.kept b;
             table =
                 more (e.row - 1) entered-begins
-                (subst (λ (n : ℕ). Table schema words x t columns mask n heads nodes) (sym entered-row) e.table);
+                (subst (λ (n : ℕ). Table codes schema words x t columns mask n heads nodes) (sym entered-row) e.table);
           }
 
 -- ---- 3. the tables of the sets
 
 -- The first k sets have their tables, and their columns are `filled`
-pub record Levelled (schema words : List ℕ) (j : JoinDependency) (x : Index) (heads nodes : List ℕ) (filled k : ℕ) : Type 0 where
+pub record Levelled (codes : List CodePair) (schema words : List ℕ) (j : JoinDependency) (x : Index) (heads nodes : List ℕ) (filled k : ℕ) : Type 0 where
   pub few : k ≤ j.count
   pub columns : filled ≡ filled_to j.sets k
   pub thread : Threaded schema words nodes
   pub room : Roomy words x heads nodes
-  pub levels : (l : ℕ) → l < k → Table schema words x (l + 1) (shared_at j.sets l) (get_or j.sets l 0) 0 heads nodes
+  pub levels : (l : ℕ) → l < k → Table codes schema words x (l + 1) (shared_at j.sets l) (get_or j.sets l 0) 0 heads nodes
 
-module _ (schema words : List ℕ) (j : JoinDependency) (x : Index) where
-  pub levelled-none : (heads nodes : List ℕ) → Threaded schema words nodes → Roomy words x heads nodes → Levelled schema words j x heads nodes 0 0
+module _ (codes : List CodePair) (schema words : List ℕ) (j : JoinDependency) (x : Index) where
+  pub levelled-none : (heads nodes : List ℕ) → Threaded schema words nodes → Roomy words x heads nodes → Levelled codes schema words j x heads nodes 0 0
   unfolding filled_to
   levelled-none heads nodes thread room =
       record { few = omega arith; columns = refl; thread = thread; room = room; levels = λ l h. absurd (omega arith) }
 
-  module _ (heads nodes : List ℕ) (filled k : ℕ) (v : Levelled schema words j x heads nodes filled k) where
+  module _ (heads nodes : List ℕ) (filled k : ℕ) (v : Levelled codes schema words j x heads nodes filled k) where
     pub levelled-next : k < j.count → j.count ≤ 4 → (heads' nodes' : List ℕ) → Threaded schema words nodes' → Roomy words x heads' nodes'
-        → Table schema words x (k + 1) (bit_and (get_or j.sets k 0) filled) (get_or j.sets k 0) 0 heads' nodes'
-        → ((l columns mask : ℕ) → l < 4 → (l ≡ k → ⊥) → Table schema words x (l + 1) columns mask 0 heads nodes
-        → Table schema words x (l + 1) columns mask 0 heads' nodes')
-        → Levelled schema words j x heads' nodes' (bit_or filled (get_or j.sets k 0)) (k + 1)
+        → Table codes schema words x (k + 1) (bit_and (get_or j.sets k 0) filled) (get_or j.sets k 0) 0 heads' nodes'
+        → ((l columns mask : ℕ) → l < 4 → (l ≡ k → ⊥) → Table codes schema words x (l + 1) columns mask 0 heads nodes
+        → Table codes schema words x (l + 1) columns mask 0 heads' nodes')
+        → Levelled codes schema words j x heads' nodes' (bit_or filled (get_or j.sets k 0)) (k + 1)
     unfolding filled_to
     levelled-next h small heads' nodes' thread room table kept =
         record {
@@ -131,13 +133,13 @@ module _ (schema words : List ℕ) (j : JoinDependency) (x : Index) where
               (λ less. kept l (shared_at j.sets l) (get_or j.sets l 0) (omega arith) (λ same. omega arith) (v.levels l less))
               (λ past.
               let e : k ≡ l = omega arith in
-              subst (λ (n : ℕ). Table schema words x (n + 1) (shared_at j.sets n) (get_or j.sets n 0) 0 heads' nodes') e
-              (subst (λ (m : ℕ). Table schema words x (k + 1) (bit_and (get_or j.sets k 0) m) (get_or j.sets k 0) 0 heads' nodes') v.columns table))
+              subst (λ (n : ℕ). Table codes schema words x (n + 1) (shared_at j.sets n) (get_or j.sets n 0) 0 heads' nodes') e
+              (subst (λ (m : ℕ). Table codes schema words x (k + 1) (bit_and (get_or j.sets k 0) m) (get_or j.sets k 0) 0 heads' nodes') v.columns table))
               (below-or-past l k);
         }
 
     pub levelled-all : j.count ≤ k → j.count ≤ 4 → Known schema x → x.relation ≡ j.relation → (heads' nodes' : List ℕ) → Beside 0 heads nodes heads' nodes'
-        → Table schema words x 0 filled 0 0 heads' nodes' → Indexed schema words j x heads' nodes'
+        → Table codes schema words x 0 filled 0 0 heads' nodes' → Indexed codes schema words j x heads' nodes'
     levelled-all past small known relation heads' nodes' b whole =
         let r = roomy-beside words x b v.room in
         let e : k ≡ j.count = omega (arith, v.few) in
@@ -148,5 +150,5 @@ module _ (schema words : List ℕ) (j : JoinDependency) (x : Index) where
           levels =
               λ l h some. table_beside b (l + 1) (shared_at j.sets l) (get_or j.sets l 0) 0 (omega arith) (λ same. omega arith) (v.levels l (omega arith));
           whole =
-              λ some. subst (λ (m : ℕ). Table schema words x 0 m 0 0 heads' nodes') (v.columns ∙ ap (filled_to j.sets) e) whole;
+              λ some. subst (λ (m : ℕ). Table codes schema words x 0 m 0 0 heads' nodes') (v.columns ∙ ap (filled_to j.sets) e) whole;
         }

@@ -1,17 +1,19 @@
 // The tables of a join dependency: one of all rows, by the columns of all sets, and one for each set, by the columns that sets before it have; of rows with the
 // same values in the set it has only the first. `heads` has a word for each bucket of each of 5 tables, and `nodes` six for each word of the database: a link
 // to the row before, and one for each table. Without room for them, or where a word's place is beyond 32 bits, there are no tables.
-// Kept as it is: words, schema, index and tables stay parameters, since `heads` and `nodes` are written: a struct like `Tables` of `join_testing`, which
+// Kept as it is: codes, schema, words, index and tables stay parameters, since `heads` and `nodes` are written: a struct like `Tables` of `join_testing`, which
 // only reads, would hold two `&mut` slices.
 #![tactic(auto)]
 
 ghost use Rattle.std.specs.Prelude.{◌≡◌, true, ℕ, suc, ◌+◌, ◌*◌, ◌≤◌, ◌<◌, length, get_or};
+ghost use Rattle.codes.specs.internal.Codes.{codes_in};
 ghost use Rattle.words.specs.Words.{spells_rows};
 ghost use Rattle.join_lookup.specs.internal.Starts.{BeginsAt, Known};
 ghost use Rattle.join_lookup.specs.internal.Tables.{Table};
 ghost use Rattle.join_tables.specs.internal.Filling.{Threaded, Beside, Roomy};
 ghost use Rattle.join_tables.specs.internal.Indexed.{Searchable, Indexed};
 
+use codes::pairs::Codes;
 use join_lookup::Index;
 use query::JoinDependency;
 
@@ -29,7 +31,7 @@ fn clear(heads: &mut [u32], t: usize, buckets: usize, end: u32)
 }
 
 // Links each row to the one before.
-fn thread(words: &[u32], schema: &[u8], nodes: &mut [u32])
+fn thread(schema: &[u8], words: &[u32], nodes: &mut [u32])
     requires { (spells_rows schema.now words.now ≡ true) × (6 * length words.now ≤ length nodes.old) × (length words.now < 4294967296) }
     ensures threaded { Threaded schema.now words.now nodes.new }
     ensures nodes_len_unchanged { length nodes.new ≡ length nodes.old }
@@ -44,8 +46,9 @@ fn thread(words: &[u32], schema: &[u8], nodes: &mut [u32])
 // Enters the row at `at` at the head of its bucket's chain in table t, by its values in some columns. If t is not 0, a row is passed by that has the values of
 // an earlier row in the columns of a set.
 fn enter_row(
-    words: &[u32],
+    codes: &Codes,
     schema: &[u8],
+    words: &[u32],
     x: Index,
     t: usize,
     columns: u8,
@@ -57,20 +60,20 @@ fn enter_row(
     requires words_value { (spells_rows schema.now words.now ≡ true) × Known schema.now x × (t < 5) }
     requires roomy { Roomy words.now x heads.old nodes.old }
     requires by_index { (p : ℕ) × BeginsAt schema.now words.now at p }
-    requires table { (t ≡ 0 → ⊥) → Table schema.now words.now x 0 set 0 0 heads.old nodes.old }
+    requires table { (t ≡ 0 → ⊥) → Table (codes_in codes.now) schema.now words.now x 0 set 0 0 heads.old nodes.old }
     ensures beside { Beside t heads.old nodes.old heads.new nodes.new }
     ensures by_index_2 { (p : ℕ) → BeginsAt schema.now words.now at p
-        → Table schema.now words.now x t columns set (suc p) heads.old nodes.old
-        → Table schema.now words.now x t columns set p heads.new nodes.new }
+        → Table (codes_in codes.now) schema.now words.now x t columns set (suc p) heads.old nodes.old
+        → Table (codes_in codes.now) schema.now words.now x t columns set p heads.new nodes.new }
 {
     if words[at] != x.relation {
         return;
     }
-    let values = tables::read_row(words, at, x.width);
+    let values = words::read_row(codes, words, x.width, at);
     let b = join_lookup::bucket(columns, values, x.width, x.buckets);
     let spot = 5 * b + t;
     if t != 0 {
-        if join_lookup::find(words, schema, x, set, values, heads, nodes) != at {
+        if join_lookup::find(codes, schema, words, x, set, values, heads, nodes) != at {
             nodes[6 * at + 1 + t] = heads[spot];
             return;
         }
@@ -81,8 +84,9 @@ fn enter_row(
 
 // Enters all rows into table t, from the last to the first.
 fn enter(
-    words: &[u32],
+    codes: &Codes,
     schema: &[u8],
+    words: &[u32],
     x: Index,
     t: usize,
     columns: u8,
@@ -92,23 +96,24 @@ fn enter(
 )
     requires words_value { (spells_rows schema.now words.now ≡ true) × Known schema.now x × (t < 5) }
     requires roomy { Roomy words.now x heads.old nodes.old × Threaded schema.now words.now nodes.old }
-    requires table { (t ≡ 0 → ⊥) → Table schema.now words.now x 0 set 0 0 heads.old nodes.old }
+    requires table { (t ≡ 0 → ⊥) → Table (codes_in codes.now) schema.now words.now x 0 set 0 0 heads.old nodes.old }
     ensures beside { Beside t heads.old nodes.old heads.new nodes.new }
-    ensures table_2 { Table schema.now words.now x t columns set 0 heads.new nodes.new }
+    ensures table_2 { Table (codes_in codes.now) schema.now words.now x t columns set 0 heads.new nodes.new }
 {
     clear(heads, t, x.buckets, words.len() as u32);
     let mut at = words.len();
     // Kept as it is: an iterator over the links, from last to first, would be a struct more, with three clauses and their proofs, for this one loop.
     while at != 0 {
         at = nodes[6 * (at - 1)] as usize;
-        enter_row(words, schema, x, t, columns, set, at, heads, nodes);
+        enter_row(codes, schema, words, x, t, columns, set, at, heads, nodes);
     }
 }
 
 // Makes the table of set k, by the columns that it shares with the sets before. Table 0 then has all rows by the columns of the set.
 fn enter_set(
-    words: &[u32],
+    codes: &Codes,
     schema: &[u8],
+    words: &[u32],
     x: Index,
     k: usize,
     set: u8,
@@ -120,19 +125,20 @@ fn enter_set(
     requires roomy { Roomy words.now x heads.old nodes.old × Threaded schema.now words.now nodes.old }
     ensures threaded { Threaded schema.now words.now nodes.new }
     ensures roomy_2 { Roomy words.now x heads.new nodes.new }
-    ensures table { Table schema.now words.now x (k + 1) shared set 0 heads.new nodes.new }
+    ensures table { Table (codes_in codes.now) schema.now words.now x (k + 1) shared set 0 heads.new nodes.new }
     ensures by_index { (l columns mask : ℕ) → l < 4 → (l ≡ k → ⊥)
-        → Table schema.now words.now x (l + 1) columns mask 0 heads.old nodes.old
-        → Table schema.now words.now x (l + 1) columns mask 0 heads.new nodes.new }
+        → Table (codes_in codes.now) schema.now words.now x (l + 1) columns mask 0 heads.old nodes.old
+        → Table (codes_in codes.now) schema.now words.now x (l + 1) columns mask 0 heads.new nodes.new }
 {
-    enter(words, schema, x, 0, set, 0, heads, nodes);
-    enter(words, schema, x, k + 1, shared, set, heads, nodes);
+    enter(codes, schema, words, x, 0, set, 0, heads, nodes);
+    enter(codes, schema, words, x, k + 1, shared, set, heads, nodes);
 }
 
 // Makes the tables of a join dependency.
 fn fill(
-    words: &[u32],
+    codes: &Codes,
     schema: &[u8],
+    words: &[u32],
     j: JoinDependency,
     x: Index,
     heads: &mut [u32],
@@ -140,28 +146,29 @@ fn fill(
 )
     requires searchable { Searchable schema.now words.now j × Known schema.now x × (x.relation ≡ j.relation) }
     requires roomy { Roomy words.now x heads.old nodes.old }
-    ensures { Indexed schema.now words.now j x heads.new nodes.new }
+    ensures { Indexed (codes_in codes.now) schema.now words.now j x heads.new nodes.new }
 {
-    thread(words, schema, nodes);
+    thread(schema, words, nodes);
     let count = j.count as usize;
     let mut filled: u8 = 0;
     for (k, &set) in j.sets[..count].iter().enumerate() {
-        enter_set(words, schema, x, k, set, set & filled, heads, nodes);
+        enter_set(codes, schema, words, x, k, set, set & filled, heads, nodes);
         filled |= set;
     }
-    enter(words, schema, x, 0, filled, 0, heads, nodes);
+    enter(codes, schema, words, x, 0, filled, 0, heads, nodes);
 }
 
 // The tables of a join dependency, if there is room for them.
 pub fn build(
-    words: &[u32],
+    codes: &Codes,
     schema: &[u8],
+    words: &[u32],
     j: JoinDependency,
     heads: &mut [u32],
     nodes: &mut [u32],
 ) -> Index
     requires { Searchable schema.now words.now j }
-    ensures { Indexed schema.now words.now j result heads.new nodes.new }
+    ensures { Indexed (codes_in codes.now) schema.now words.now j result heads.new nodes.new }
 {
     let index = j.relation as usize;
     let relation = j.relation as u32;
@@ -181,6 +188,6 @@ pub fn build(
         width,
         buckets,
     };
-    fill(words, schema, j, x, heads, nodes);
+    fill(codes, schema, words, j, x, heads, nodes);
     x
 }

@@ -25,6 +25,9 @@ use Rattle.join_tables.specs.internal.Indexed.{filled_to, shared_at, Searchable,
 use Rattle.join_testing.specs.internal.Search.{sets_from, BreaksFrom, FirstFrom, Searched, plainly}
 use Rattle.join_order.specs.internal.Arranged.{Arranged}
 use Rattle.join_testing.proofs.Sets as sets
+use Rattle.theory.specs.Codes.{CodePair}
+use Rattle.words.specs.Words.{database_read}
+use Rattle.words.proofs.Reading.{read-length}
 use Rattle.join_testing.proofs.Searching.{Joins, Going, NoneBelow, breaks-some, breaks-has, breaks-down, going-some, has_word}
 
 -- ---- 1. what can be searched
@@ -130,8 +133,8 @@ pub record SameRelation (x y : Index) : Type 0 where
 with-same : (x y : Index) → SameRelation x y → (values : List ℕ) → row_with x values ≡ row_with y values
 with-same x y s values = λ t. record { relation = s.relation t; values = take (s.width t) values }
 
-breaks-index : {schema words : List ℕ} {j : JoinDependency} (x y : Index) → SameRelation x y → (k : ℕ) (values ps : List ℕ)
-    → BreaksFrom schema words j x k values ps → BreaksFrom schema words j y k values ps
+breaks-index : {codes : List CodePair} {schema words : List ℕ} {j : JoinDependency} (x y : Index) → SameRelation x y → (k : ℕ) (values ps : List ℕ)
+    → BreaksFrom codes schema words j x k values ps → BreaksFrom codes schema words j y k values ps
 breaks-index {j = j} x y s k values ps b =
     record {
       row = b.row;
@@ -143,11 +146,12 @@ breaks-index {j = j} x y s k values ps b =
     }
 
 -- What a search finds does not depend on the tables
-pub searched-index : (schema words : List ℕ) (j : JoinDependency) (x y : Index) → SameRelation x y → (k : ℕ) (values : List ℕ) (found : Option (List ℕ))
-    → Searched schema words j x k values found → Searched schema words j y k values found
-searched-index schema words j x y s k values None f =
+pub searched-index : (codes : List CodePair) (schema words : List ℕ) (j : JoinDependency) (x y : Index) → SameRelation x y
+    → (k : ℕ) (values : List ℕ) (found : Option (List ℕ))
+    → Searched codes schema words j x k values found → Searched codes schema words j y k values found
+searched-index codes schema words j x y s k values None f =
     let t : SameRelation y x = record { relation = sym s.relation; width = sym s.width } in λ ps b. f ps (breaks-index y x t k values ps b)
-searched-index schema words j x y s k values (Some at) f =
+searched-index codes schema words j x y s k values (Some at) f =
     let t : SameRelation y x = record { relation = sym s.relation; width = sym s.width } in
     let first = f.1 in (
       f.0,
@@ -159,14 +163,14 @@ searched-index schema words j x y s k values (Some at) f =
       },
     )
 
-module _ {schema words : List ℕ} (j r : JoinDependency) (k : ℕ) (a : Arranged j r (suc k)) (more : k < j.count) (g : Searchable schema words j)
+module _ {codes : List CodePair} {schema words : List ℕ} (j r : JoinDependency) (k : ℕ) (a : Arranged j r (suc k)) (more : k < j.count)
+    (g : Searchable schema words j)
     (h : Searchable schema words r) (x y : Index) (s : SameRelation x y) (values : List ℕ) where
-  abbrev D : Database
-  D = database_of schema words
-
   -- With the sets after k in another order the same row is missing, and with the same position for set k
-  pub breaks-arranged : (q : ℕ) (qs : List ℕ) → BreaksFrom schema words r x k values (q ∷ qs) → (ps : List ℕ) × BreaksFrom schema words j y k values (q ∷ ps)
+  pub breaks-arranged : (q : ℕ) (qs : List ℕ) → BreaksFrom codes schema words r x k values (q ∷ qs) → (ps : List ℕ)
+      × BreaksFrom codes schema words j y k values (q ∷ ps)
   breaks-arranged q qs b =
+      let D : Database = database_read codes schema words in
       let low : k < r.count = omega (arith, a.count) in
       let c = subst (λ (l : List (List ℕ)). GoWith l D b.row (q ∷ qs)) (sets.sets-cons r h.shaped h.few k low) b.chosen in
       let rest = each_goes D b.row (sets_from j (suc k)) (λ t at.
@@ -194,8 +198,9 @@ module _ {schema words : List ℕ} (j r : JoinDependency) (k : ℕ) (a : Arrange
 -- ---- 3. the first choice
 
 -- Without tables everything that a search asks of them holds
-pub plain-indexed : {schema words : List ℕ} (j : JoinDependency) → Searchable schema words j → Indexed schema words j (plainly schema j) [] []
-plain-indexed {schema} j g =
+pub plain-indexed : {codes : List CodePair} {schema words : List ℕ} (j : JoinDependency) → Searchable schema words j
+    → Indexed codes schema words j (plainly schema j) [] []
+plain-indexed {codes} {schema} j g =
     record {
       known = record { known = g.fits.known; width = refl; narrow = g.narrow; few = omega arith };
       relation = refl;
@@ -205,20 +210,22 @@ plain-indexed {schema} j g =
     }
 
 -- The index of a join dependency is of the relation that is tested
-pub index-plain : {schema words heads nodes : List ℕ} (j r : JoinDependency) (x : Index) → r.relation ≡ j.relation → Indexed schema words r x heads nodes
+pub index-plain : {codes : List CodePair} {schema words heads nodes : List ℕ} (j r : JoinDependency) (x : Index) → r.relation ≡ j.relation
+    → Indexed codes schema words r x heads nodes
     → SameRelation x (plainly schema j)
-index-plain {schema} j r x e i =
+index-plain {codes} {schema} j r x e i =
     record {
       relation = i.relation ∙ e;
       width = i.known.width ∙ ap (λ (n : ℕ). get_or schema n 0) (i.relation ∙ e);
     }
 
-module _ {schema words heads nodes : List ℕ} (j r : JoinDependency) (k : ℕ) (a : Arranged j r (suc k)) (more : k < j.count) (g : Searchable schema words j)
-    (h : Searchable schema words r) (x : Index) (i : Indexed schema words r x heads nodes) (values : List ℕ) where
+module _ {codes : List CodePair} {schema words heads nodes : List ℕ} (j r : JoinDependency) (k : ℕ) (a : Arranged j r (suc k)) (more : k < j.count)
+    (g : Searchable schema words j)
+    (h : Searchable schema words r) (x : Index) (i : Indexed codes schema words r x heads nodes) (values : List ℕ) where
   abbrev y : Index
   y = plainly schema j
 
-  abbrev plain : Indexed schema words j (plainly schema j) [] []
+  abbrev plain : Indexed codes schema words j (plainly schema j) [] []
   plain = plain-indexed j g
 
   same : SameRelation x (plainly schema j)
@@ -234,31 +241,31 @@ module _ {schema words heads nodes : List ℕ} (j r : JoinDependency) (k : ℕ) 
   more-r = omega (arith, a.count)
 
   -- Rows for the sets as they are held are rows for them as they are arranged
-  to-arranged : (q : ℕ) (qs : List ℕ) → BreaksFrom schema words j (plainly schema j) k values (q ∷ qs)
-      → (ps : List ℕ) × BreaksFrom schema words r x k values (q ∷ ps)
+  to-arranged : (q : ℕ) (qs : List ℕ) → BreaksFrom codes schema words j (plainly schema j) k values (q ∷ qs)
+      → (ps : List ℕ) × BreaksFrom codes schema words r x k values (q ∷ ps)
   to-arranged q qs b = breaks-arranged r j k back more-r h g (plainly schema j) x swapped values q qs b
 
   -- Where nothing is found there is nothing
-  pub arranged-none : Searched schema words r x k values None → Searched schema words j (plainly schema j) k values None
+  pub arranged-none : Searched codes schema words r x k values None → Searched codes schema words j (plainly schema j) k values None
   arranged-none s [] b = breaks-some g plain k more values b
   arranged-none s (q ∷ qs) b = let c = to-arranged q qs b in s (q ∷ c.0) c.1
 
-  module _ (at : List ℕ) (s : Searched schema words r x k values (Some at)) where
+  module _ (at : List ℕ) (s : Searched codes schema words r x k values (Some at)) where
     -- The first position for set k: some rows for the sets after it go with it, and none with one before
     pub record FirstRow (p : ℕ) : Type 0 where
       pub place : get_or at k 0 ≡ start_of schema words p
       pub rest : List ℕ
-      pub breaks : BreaksFrom schema words j (plainly schema j) k values (p ∷ rest)
+      pub breaks : BreaksFrom codes schema words j (plainly schema j) k values (p ∷ rest)
       pub before : NoneBelow g plain k more values p
 
     pub first-row : (p : ℕ) × FirstRow p
     first-row = go f.positions f.breaks f.before f.places
       where
-        f : FirstFrom schema words r x k values at
+        f : FirstFrom codes schema words r x k values at
         f = s.1
 
-        go : (ps : List ℕ) → BreaksFrom schema words r x k values ps
-            → ((qs : List ℕ) → Earlier qs ps → BreaksFrom schema words r x k values qs → ⊥)
+        go : (ps : List ℕ) → BreaksFrom codes schema words r x k values ps
+            → ((qs : List ℕ) → Earlier qs ps → BreaksFrom codes schema words r x k values qs → ⊥)
             → ((n : ℕ) → get_or at (k + n) 0 ≡ start_of schema words (get_or ps n 0)) → (p : ℕ) × FirstRow p
         go [] b before places = absurd (breaks-some h i k more-r values b)
         go (p ∷ ps) b before places =
@@ -275,7 +282,7 @@ module _ {schema words heads nodes : List ℕ} (j r : JoinDependency) (k : ℕ) 
 
     module _ (p : ℕ) (f : FirstRow p) where
       -- Its row has the values that are known
-      pub row-has : Has schema words (plainly schema j) (shared_at j.sets k) values p
+      pub row-has : Has codes schema words (plainly schema j) (shared_at j.sets k) values p
       row-has = breaks-has g plain k more values p f.rest f.breaks
 
       pub row-begins : BeginsAt schema words (get_or at k 0) p
@@ -283,16 +290,17 @@ module _ {schema words heads nodes : List ℕ} (j r : JoinDependency) (k : ℕ) 
         where
           inside : p < row_count schema words
           inside =
-              (subst (λ (l : List (List ℕ)). GoWith l (database_of schema words) f.breaks.row (p ∷ f.rest))
-              (sets.sets-cons j g.shaped g.few k more) f.breaks.chosen).0
+              let goes = subst (λ (l : List (List ℕ)). GoWith l (database_read codes schema words) f.breaks.row (p ∷ f.rest))
+              (sets.sets-cons j g.shaped g.few k more) f.breaks.chosen in
+              omega (arith, goes.0, read-length codes (database_of schema words))
 
       pub row-word : get_or words (get_or at k 0) 0 ≡ j.relation
-      row-word = has_word (plainly schema j) g (shared_at j.sets k) values (get_or at k 0) p row-begins row-has
+      row-word = has_word codes (plainly schema j) g (shared_at j.sets k) values (get_or at k 0) p row-begins row-has
 
       -- The first choice after it makes it whole
-      pub chosen-first : (row : List ℕ) → Joins schema words (plainly schema j) (get_or j.sets k 0) p values row → (places : List ℕ)
-          → Searched schema words j (plainly schema j) (k + 1) row (Some places)
-          → Searched schema words j (plainly schema j) k values (Some (set places k (get_or at k 0)))
+      pub chosen-first : (row : List ℕ) → Joins codes schema words (plainly schema j) (get_or j.sets k 0) p values row → (places : List ℕ)
+          → Searched codes schema words j (plainly schema j) (k + 1) row (Some places)
+          → Searched codes schema words j (plainly schema j) k values (Some (set places k (get_or at k 0)))
       chosen-first row joins places t = going-some g plain k more values (get_or at k 0) way row places joins row-begins.1 row-has t
         where
           way : Going g plain k more values (get_or at k 0)
@@ -310,9 +318,9 @@ module _ {schema words heads nodes : List ℕ} (j r : JoinDependency) (k : ℕ) 
           )
 
       -- And there is one
-      pub chosen-some : (row : List ℕ) → Joins schema words (plainly schema j) (get_or j.sets k 0) p values row
-          → Searched schema words j (plainly schema j) (k + 1) row None → ⊥
+      pub chosen-some : (row : List ℕ) → Joins codes schema words (plainly schema j) (get_or j.sets k 0) p values row
+          → Searched codes schema words j (plainly schema j) (k + 1) row None → ⊥
       chosen-some row joins t =
           t f.rest
-          (subst (λ (n : ℕ). BreaksFrom schema words j (plainly schema j) n row f.rest) (sym (add-one k))
+          (subst (λ (n : ℕ). BreaksFrom codes schema words j (plainly schema j) n row f.rest) (sym (add-one k))
           (breaks-down g plain k more values p row joins f.rest f.breaks))

@@ -6,7 +6,7 @@ use mathlib.Core.Option.{Option, none, some, or_else, map}
 use Prim.Native.Nat.{ℕ, zero, suc, ◌+◌, ◌≤◌}
 use native.Mathlib.Numerals.{add-one}
 use native.Mathlib.Omega.{arith}
-use lib.ListN.{get_or}
+use lib.ListN.{length, get_or}
 use Rattle.theory.specs.Query.{◌∈◌}
 use Rattle.theory.specs.Database.{Database, JoinDependency}
 use Rattle.theory.specs.Chase.{first_found}
@@ -24,18 +24,22 @@ use Rattle.join_testing.specs.Meaning.{BreaksJoin}
 use Rattle.join_lookup.specs.internal.Starts.{row_count}
 use Rattle.join_tables.specs.internal.Indexed.{filled_to, Searchable, Indexed}
 use Rattle.join_testing.specs.internal.Search.{BreaksFrom, FirstFrom, Searched, rows_chosen}
+use Rattle.theory.specs.Codes.{CodePair}
+use Rattle.words.specs.Words.{database_read}
+use Rattle.words.proofs.Reading.{read-length}
+use Rattle.words.proofs.Reading.{read-sound}
 use Rattle.join_testing.proofs.Choosing.{Inside, goes-inside, first-found, unbroken-none}
 
-module _ {schema words : List ℕ} {j : stored.JoinDependency} {x : Index} {heads nodes : List ℕ} (g : Searchable schema words j)
-    (i : Indexed schema words j x heads nodes) (values : List ℕ) where
+module _ {codes : List CodePair} {schema words : List ℕ} {j : stored.JoinDependency} {x : Index} {heads nodes : List ℕ} (g : Searchable schema words j)
+    (i : Indexed codes schema words j x heads nodes) (values : List ℕ) where
   abbrev D : Database
-  D = database_of schema words
+  D = database_read codes schema words
 
   -- With no set done nothing is known
-  from_first : (ps : List ℕ) → BreaksFrom schema words j x 0 values ps → BreaksJoin schema (join_of j) D ps
+  from_first : (ps : List ℕ) → BreaksFrom codes schema words j x 0 values ps → BreaksJoin schema (join_of j) D ps
   from_first ps b = record { row = b.row; fits = b.fits; relation = b.relation ∙ i.relation; chosen = b.chosen; absent = b.absent }
 
-  to-first : (ps : List ℕ) → BreaksJoin schema (join_of j) D ps → BreaksFrom schema words j x 0 values ps
+  to-first : (ps : List ℕ) → BreaksJoin schema (join_of j) D ps → BreaksFrom codes schema words j x 0 values ps
   unfolding filled_to
   to-first ps b =
       record {
@@ -48,25 +52,26 @@ module _ {schema words : List ℕ} {j : stored.JoinDependency} {x : Index} {head
       }
 
   -- What the search finds is the first choice
-  pub searched-none : Searched schema words j x 0 values None → first_choice schema (join_of j) D ≡ none
+  pub searched-none : Searched codes schema words j x 0 values None → first_choice schema (join_of j) D ≡ none
   searched-none s =
-      unbroken-none schema (join_of j) g.fits D (rows-spelled schema words g.spelled).1 (λ ps b. s ps (to-first ps b))
+      unbroken-none schema (join_of j) g.fits D (read-sound codes schema (database_of schema words) (rows-spelled schema words g.spelled).1)
+      (λ ps b. s ps (to-first ps b))
 
-  pub searched-some : (at : List ℕ) (f : FirstFrom schema words j x 0 values at) → first_choice schema (join_of j) D ≡ some f.positions
+  pub searched-some : (at : List ℕ) (f : FirstFrom codes schema words j x 0 values at) → first_choice schema (join_of j) D ≡ some f.positions
   searched-some at f =
-      first-found schema (join_of j) g.fits D (rows-spelled schema words g.spelled).1 f.positions
+      first-found schema (join_of j) g.fits D (read-sound codes schema (database_of schema words) (rows-spelled schema words g.spelled).1) f.positions
       (record { breaks = from_first f.positions f.breaks; before = λ qs less b. f.before qs less (to-first qs b) })
 
   -- Its positions are positions of rows
-  pub first-inside : (at : List ℕ) (f : FirstFrom schema words j x 0 values at) (n : ℕ) → get_or f.positions n 0 ≤ row_count schema words
+  pub first-inside : (at : List ℕ) (f : FirstFrom codes schema words j x 0 values at) (n : ℕ) → get_or f.positions n 0 ≤ row_count schema words
   first-inside at f n =
       low (join_of j).sets f.positions (goes-inside D f.breaks.row (join_of j).sets f.positions f.breaks.chosen) n
     where
-      low : (sets : List (List ℕ)) (ps : List ℕ) → Inside sets (row_count schema words) ps → (n : ℕ) → get_or ps n 0 ≤ row_count schema words
+      low : (sets : List (List ℕ)) (ps : List ℕ) → Inside sets (length D) ps → (n : ℕ) → get_or ps n 0 ≤ row_count schema words
       low [] (p ∷ ps) h n = elim h [ ]
       low (set ∷ sets) [] h n = elim h [ ]
       low [] [] h n = omega arith
-      low (set ∷ sets) (p ∷ ps) h zero = omega (arith, h.0)
+      low (set ∷ sets) (p ∷ ps) h zero = omega (arith, h.0, read-length codes (database_of schema words))
       low (set ∷ sets) (p ∷ ps) h (suc n) = low sets ps h.1 n
 
 -- ---- join dependencies in held order

@@ -32,6 +32,10 @@ use Rattle.join_testing.specs.internal.Search.{sets_from, BreaksFrom, FirstFrom,
 use Rattle.join_lookup.proofs.Bits.{BitOf, column-bit, bit-column, or-bit, bit-or, and-bit, bit-and}
 use Rattle.join_lookup.proofs.Starting.{inside-start, outside-start, start-end, start-relation, row_fits, with-past}
 use Rattle.join_lookup.proofs.Having.{with-column, begins-column}
+use Rattle.theory.specs.Codes.{CodePair}
+use Rattle.theory.specs.Codes.{read_code}
+use Rattle.words.specs.Words.{database_read}
+use Rattle.words.proofs.Reading.{read-length}
 use Rattle.join_testing.proofs.Sets as sets
 
 -- ---- 1. the sets
@@ -55,9 +59,9 @@ unfolding filled_to
 filled_next sets k = ap (filled_to sets) (sym (add-one k))
 
 -- The values with those of row q in the columns of a set
-abbrev pub Joins : List ℕ → List ℕ → Index → ℕ → ℕ → List ℕ → List ℕ → Type 0
-Joins schema words x mask q values row =
-    Agree 0 (columns_of mask) (row_of schema words q) (row_with x row)
+abbrev pub Joins : List CodePair → List ℕ → List ℕ → Index → ℕ → ℕ → List ℕ → List ℕ → Type 0
+Joins codes schema words x mask q values row =
+    Agree 0 (columns_of mask) (row_of codes schema words q) (row_with x row)
     × ((c : ℕ) → (c ∈ columns_of mask → ⊥) → column 0 (row_with x row) c ≡ column 0 (row_with x values) c)
 
 replicate-zero : (n i : ℕ) → get_or (replicate {A = ℕ} n 0) i 0 ≡ 0
@@ -65,9 +69,14 @@ replicate-zero zero i = refl
 replicate-zero (suc n) zero = refl
 replicate-zero (suc n) (suc i) = replicate-zero n i
 
-module _ {schema words : List ℕ} {j : JoinDependency} {x : Index} {heads nodes : List ℕ} (g : Searchable schema words j) (i : Indexed schema words j x heads nodes) where
+module _ {codes : List CodePair} {schema words : List ℕ} {j : JoinDependency} {x : Index} {heads nodes : List ℕ} (g : Searchable schema words j)
+    (i : Indexed codes schema words j x heads nodes) where
   abbrev D : Database
-  D = database_of schema words
+  D = database_read codes schema words
+
+  -- There are as many rows as they are read
+  as_many : length D ≡ row_count schema words
+  as_many = read-length codes (database_of schema words)
 
   abbrev set_at : ℕ → ℕ
   set_at k = get_or j.sets k 0
@@ -109,17 +118,17 @@ module _ {schema words : List ℕ} {j : JoinDependency} {x : Index} {heads nodes
         let f : (row_with x values).relation ≡ r.relation = sym relation in
         λ t. record { relation = f t; values = e t }
 
-    module _ (k : ℕ) (last : k ≡ j.count) (end : ℕ) (f : FirstWith schema words x (filled_to j.sets k) values end) where
+    module _ (k : ℕ) (last : k ≡ j.count) (end : ℕ) (f : FirstWith codes schema words x (filled_to j.sets k) values end) where
       leaf-absent : end ≡ length words → row_with x values ∈ D → ⊥
       leaf-absent e at =
           let z : Row ℕ = record { relation = 0; values = [] } in
           let place = in-get_or D z at in
           let all : f.row ≡ row_count schema words =
           outside-start schema words g.spelled f.row f.inside (omega (arith, f.place)) in
-          f.before place.0 (omega (arith, place.1))
+          f.before place.0 (omega (arith, place.1, as_many))
           (ap (λ (r : Row ℕ). r.relation) place.2, λ c there. ap (λ (r : Row ℕ). column 0 r c) place.2)
 
-      pub leaf-some : end ≡ length words → FirstFrom schema words j x k values (replicate 4 0)
+      pub leaf-some : end ≡ length words → FirstFrom codes schema words j x k values (replicate 4 0)
       unfolding start_of
       leaf-some e =
           record {
@@ -141,7 +150,7 @@ module _ {schema words : List ℕ} {j : JoinDependency} {x : Index} {heads nodes
           never [] less = less
           never (q ∷ qs) less = less
 
-      pub leaf-none : (end ≡ length words → ⊥) → (ps : List ℕ) → BreaksFrom schema words j x k values ps → ⊥
+      pub leaf-none : (end ≡ length words → ⊥) → (ps : List ℕ) → BreaksFrom codes schema words j x k values ps → ⊥
       leaf-none other ps b =
           let inside : f.row < row_count schema words =
           ⊎_elim (λ l. l)
@@ -152,9 +161,9 @@ module _ {schema words : List ℕ} {j : JoinDependency} {x : Index} {heads nodes
           let full : (c : ℕ) → c < x.width → c ∈ columns_of (filled_to j.sets k) =
           λ c l. subst (λ (n : ℕ). c ∈ columns_of (filled_to j.sets n)) (sym last) (all-filled c l) in
           let one : row_with x values ≡ b.row = row_is b.row b.fits b.relation (λ c l. b.kept c (full c l)) in
-          let two : row_with x values ≡ row_of schema words f.row =
-          row_is (row_of schema words f.row) (row_fits schema words g.spelled f.row inside) has.0 (λ c l. sym (has.1 c (full c l))) in
-          b.absent (Memᴰ.cast (sym one ∙ two) (get_or-in D f.row (record { relation = 0; values = [] }) inside))
+          let two : row_with x values ≡ row_of codes schema words f.row =
+          row_is (row_of codes schema words f.row) (row_fits codes schema words g.spelled f.row inside) has.0 (λ c l. sym (has.1 c (full c l))) in
+          b.absent (Memᴰ.cast (sym one ∙ two) (get_or-in D f.row (record { relation = 0; values = [] }) (omega (arith, inside, as_many))))
 
   -- ---- 3. a row more
 
@@ -175,16 +184,19 @@ module _ {schema words : List ℕ} {j : JoinDependency} {x : Index} {heads nodes
     shared-256 = omega (arith, and_le_l mask filled, g.small k)
 
     -- Positions that break it begin with one for this set
-    breaks-chosen : (q : ℕ) (qs : List ℕ) (b : BreaksFrom schema words j x k values (q ∷ qs))
-        → (q < row_count schema words) × ((row_of schema words q).relation ≡ b.row.relation) × Agree 0 (columns_of mask) (row_of schema words q) b.row
+    breaks-chosen : (q : ℕ) (qs : List ℕ) (b : BreaksFrom codes schema words j x k values (q ∷ qs))
+        → (q < row_count schema words) × ((row_of codes schema words q).relation ≡ b.row.relation)
+        × Agree 0 (columns_of mask) (row_of codes schema words q) b.row
         × GoWith (sets_from j (suc k)) D b.row qs
-    breaks-chosen q qs b = subst (λ (l : List (List ℕ)). GoWith l D b.row (q ∷ qs)) (sets-cons k more) b.chosen
+    breaks-chosen q qs b =
+        let goes = subst (λ (l : List (List ℕ)). GoWith l D b.row (q ∷ qs)) (sets-cons k more) b.chosen in
+        (omega (arith, goes.0, as_many), goes.1, goes.2, goes.3)
 
-    pub breaks-some : BreaksFrom schema words j x k values [] → ⊥
+    pub breaks-some : BreaksFrom codes schema words j x k values [] → ⊥
     breaks-some b = subst (λ (l : List (List ℕ)). GoWith l D b.row []) (sets-cons k more) b.chosen
 
     -- Its row has the values that are known already
-    pub breaks-has : (q : ℕ) (qs : List ℕ) → BreaksFrom schema words j x k values (q ∷ qs) → Has schema words x shared values q
+    pub breaks-has : (q : ℕ) (qs : List ℕ) → BreaksFrom codes schema words j x k values (q ∷ qs) → Has codes schema words x shared values q
     breaks-has q qs b =
         let s = breaks-chosen q qs b in (
           s.1 ∙ b.relation,
@@ -194,8 +206,9 @@ module _ {schema words : List ℕ} {j : JoinDependency} {x : Index} {heads nodes
         )
 
     -- Another row with the same values in the set does as well
-    breaks-other : (q p : ℕ) (qs : List ℕ) → p < q → Of schema words x p → Agree 0 (columns_of mask) (row_of schema words p) (row_of schema words q)
-        → BreaksFrom schema words j x k values (q ∷ qs) → BreaksFrom schema words j x k values (p ∷ qs)
+    breaks-other : (q p : ℕ) (qs : List ℕ) → p < q → Of codes schema words x p
+        → Agree 0 (columns_of mask) (row_of codes schema words p) (row_of codes schema words q)
+        → BreaksFrom codes schema words j x k values (q ∷ qs) → BreaksFrom codes schema words j x k values (p ∷ qs)
     breaks-other q p qs less of same b =
         let s = breaks-chosen q qs b in
         record {
@@ -205,13 +218,13 @@ module _ {schema words : List ℕ} {j : JoinDependency} {x : Index} {heads nodes
           kept = b.kept;
           chosen =
               subst (λ (l : List (List ℕ)). GoWith l D b.row (p ∷ qs)) (sym (sets-cons k more))
-              (omega (arith, less, s.0), of ∙ sym b.relation, (λ c there. same c there ∙ s.2 c there), s.3);
+              (omega (arith, less, s.0, as_many), of ∙ sym b.relation, (λ c there. same c there ∙ s.2 c there), s.3);
           absent = b.absent;
         }
 
-    module _ (q : ℕ) (row : List ℕ) (joins : Joins schema words x mask q values row) where
+    module _ (q : ℕ) (row : List ℕ) (joins : Joins codes schema words x mask q values row) where
       -- a column of the sets up to this one
-      next-kept : (r : Row ℕ) → Agree 0 (columns_of filled) (row_with x values) r → Agree 0 (columns_of mask) (row_of schema words q) r
+      next-kept : (r : Row ℕ) → Agree 0 (columns_of filled) (row_with x values) r → Agree 0 (columns_of mask) (row_of codes schema words q) r
           → Agree 0 (columns_of (filled_to j.sets (suc k))) (row_with x row) r
       unfolding filled_to
       next-kept r old new c there =
@@ -232,13 +245,13 @@ module _ {schema words : List ℕ} {j : JoinDependency} {x : Index} {heads nodes
       kept-mask c there =
           bit-column (bit_or filled mask) c (or_lt 8 filled mask filled-256 (g.small k)) (bit-or filled mask c (inr (column-bit mask c (g.small k) there)))
 
-      pub breaks-down : (qs : List ℕ) → BreaksFrom schema words j x k values (q ∷ qs) → BreaksFrom schema words j x (suc k) row qs
+      pub breaks-down : (qs : List ℕ) → BreaksFrom codes schema words j x k values (q ∷ qs) → BreaksFrom codes schema words j x (suc k) row qs
       breaks-down qs b =
           let s = breaks-chosen q qs b in
           record { row = b.row; fits = b.fits; relation = b.relation; kept = next-kept b.row b.kept s.2; chosen = s.3; absent = b.absent }
 
-      pub breaks-up : (qs : List ℕ) → q < row_count schema words → Has schema words x shared values q → BreaksFrom schema words j x (suc k) row qs
-          → BreaksFrom schema words j x k values (q ∷ qs)
+      pub breaks-up : (qs : List ℕ) → q < row_count schema words → Has codes schema words x shared values q → BreaksFrom codes schema words j x (suc k) row qs
+          → BreaksFrom codes schema words j x k values (q ∷ qs)
       breaks-up qs inside has b =
           record {
             row = b.row;
@@ -252,7 +265,7 @@ module _ {schema words : List ℕ} {j : JoinDependency} {x : Index} {heads nodes
                 (λ other. sym (joins.1 c other) ∙ b.kept c (kept-filled c there)) (mem-dec c (columns_of mask));
             chosen =
                 subst (λ (l : List (List ℕ)). GoWith l D b.row (q ∷ qs)) (sym (sets-cons k more))
-                (inside, has.0 ∙ sym b.relation, (λ c there. joins.0 c there ∙ b.kept c (kept-mask c there)), b.chosen);
+                (omega (arith, inside, as_many), has.0 ∙ sym b.relation, (λ c there. joins.0 c there ∙ b.kept c (kept-mask c there)), b.chosen);
             absent = b.absent;
           }
 
@@ -260,14 +273,14 @@ module _ {schema words : List ℕ} {j : JoinDependency} {x : Index} {heads nodes
 
     -- No positions that begin below n break it
     abbrev pub NoneBelow : ℕ → Type 0
-    NoneBelow n = (q : ℕ) (qs : List ℕ) → q < n → BreaksFrom schema words j x k values (q ∷ qs) → ⊥
+    NoneBelow n = (q : ℕ) (qs : List ℕ) → q < n → BreaksFrom codes schema words j x k values (q ∷ qs) → ⊥
 
     -- The way through the rows for this set
     abbrev pub Going : ℕ → Type 0
-    Going at = (from : ℕ) × Reaches schema words x (k + 1) shared mask values from at × NoneBelow from
+    Going at = (from : ℕ) × Reaches codes schema words x (k + 1) shared mask values from at × NoneBelow from
 
     module _ (at : ℕ) (w : Going at) where
-      none-to : (n q : ℕ) (qs : List ℕ) → q < n → q < w.1.row → BreaksFrom schema words j x k values (q ∷ qs) → ⊥
+      none-to : (n q : ℕ) (qs : List ℕ) → q < n → q < w.1.row → BreaksFrom codes schema words j x k values (q ∷ qs) → ⊥
       none-to zero q qs h low b = omega arith
       none-to (suc n) q qs h low b =
           ⊎_elim (λ before. w.2 q qs before b)
@@ -282,25 +295,25 @@ module _ {schema words : List ℕ} {j : JoinDependency} {x : Index} {heads nodes
       pub going-begins : at < length words → BeginsAt schema words at w.1.row
       going-begins h = (w.1.place, inside-start schema words g.spelled w.1.row w.1.inside (omega (arith, w.1.place)))
 
-      none_more : ((qs : List ℕ) → BreaksFrom schema words j x k values (w.1.row ∷ qs) → ⊥) → NoneBelow (suc w.1.row)
+      none_more : ((qs : List ℕ) → BreaksFrom codes schema words j x k values (w.1.row ∷ qs) → ⊥) → NoneBelow (suc w.1.row)
       none_more here q qs low b =
           ⊎_elim (λ l. none_passed q qs l b)
-          (λ l. let e : q ≡ w.1.row = omega arith in here qs (subst (λ (n : ℕ). BreaksFrom schema words j x k values (n ∷ qs)) e b))
+          (λ l. let e : q ≡ w.1.row = omega arith in here qs (subst (λ (n : ℕ). BreaksFrom codes schema words j x k values (n ∷ qs)) e b))
           (below-or-past q w.1.row)
 
       -- The row has other values
-      pub going-other : (Has schema words x shared values w.1.row → ⊥) → NoneBelow (suc w.1.row)
+      pub going-other : (Has codes schema words x shared values w.1.row → ⊥) → NoneBelow (suc w.1.row)
       going-other other = none_more (λ qs b. other (breaks-has w.1.row qs b))
 
       -- There is nothing from it on
-      pub going-none : (row : List ℕ) → Joins schema words x mask w.1.row values row
-          → ((qs : List ℕ) → BreaksFrom schema words j x (suc k) row qs → ⊥) → NoneBelow (suc w.1.row)
+      pub going-none : (row : List ℕ) → Joins codes schema words x mask w.1.row values row
+          → ((qs : List ℕ) → BreaksFrom codes schema words j x (suc k) row qs → ⊥) → NoneBelow (suc w.1.row)
       going-none row joins nothing = none_more (λ qs b. nothing qs (breaks-down w.1.row row joins qs b))
 
       -- There is a choice from it on
-      pub going-found : (row list : List ℕ) → Joins schema words x mask w.1.row values row → w.1.row < row_count schema words
-          → Has schema words x shared values w.1.row → length list ≡ 4 → FirstFrom schema words j x (suc k) row list
-          → FirstFrom schema words j x k values (set list k at)
+      pub going-found : (row list : List ℕ) → Joins codes schema words x mask w.1.row values row → w.1.row < row_count schema words
+          → Has codes schema words x shared values w.1.row → length list ≡ 4 → FirstFrom codes schema words j x (suc k) row list
+          → FirstFrom codes schema words j x k values (set list k at)
       going-found row list joins inside has size f =
           record {
             positions = w.1.row ∷ f.positions;
@@ -309,13 +322,13 @@ module _ {schema words : List ℕ} {j : JoinDependency} {x : Index} {heads nodes
             places = placed;
           }
         where
-          earlier : (qs : List ℕ) → Earlier qs (w.1.row ∷ f.positions) → BreaksFrom schema words j x k values qs → ⊥
+          earlier : (qs : List ℕ) → Earlier qs (w.1.row ∷ f.positions) → BreaksFrom codes schema words j x k values qs → ⊥
           earlier [] less b = less
           earlier (q ∷ qs) less b =
               ⊎_elim (λ l. none_passed q qs l b)
               (λ same.
               f.before qs same.1
-              (breaks-down w.1.row row joins qs (subst (λ (n : ℕ). BreaksFrom schema words j x k values (n ∷ qs)) same.0 b))) less
+              (breaks-down w.1.row row joins qs (subst (λ (n : ℕ). BreaksFrom codes schema words j x k values (n ∷ qs)) same.0 b))) less
 
           placed : (n : ℕ) → get_or (set list k at) (k + n) 0 ≡ start_of schema words (get_or (w.1.row ∷ f.positions) n 0)
           placed zero =
@@ -326,7 +339,7 @@ module _ {schema words : List ℕ} {j : JoinDependency} {x : Index} {heads nodes
               get_or-set_other list k (k + suc n) at 0 (λ same. omega arith) ∙ ap (λ (m : ℕ). get_or list m 0) e ∙ f.places n
 
       -- No row is left
-      pub going_end : length words ≤ at → (ps : List ℕ) → BreaksFrom schema words j x k values ps → ⊥
+      pub going_end : length words ≤ at → (ps : List ℕ) → BreaksFrom codes schema words j x k values ps → ⊥
       going_end past [] b = breaks-some b
       going_end past (q ∷ qs) b =
           let all : w.1.row ≡ row_count schema words =
@@ -335,12 +348,12 @@ module _ {schema words : List ℕ} {j : JoinDependency} {x : Index} {heads nodes
 
     -- The values with those of a row put in
     pub made-joins : (at p : ℕ) → BeginsAt schema words at p → get_or words at 0 ≡ x.relation → (row : List ℕ)
-        → ((c : ℕ) → c < x.width → BitOf mask c → get_or row c 0 ≡ get_or words (at + 1 + c) 0)
-        → ((c : ℕ) → (BitOf mask c → ⊥) → get_or row c 0 ≡ get_or values c 0) → Joins schema words x mask p values row
+        → ((c : ℕ) → c < x.width → BitOf mask c → get_or row c 0 ≡ read_code codes (get_or words (at + 1 + c) 0))
+        → ((c : ℕ) → (BitOf mask c → ⊥) → get_or row c 0 ≡ get_or values c 0) → Joins codes schema words x mask p values row
     made-joins at p b relation row new old = (
       λ c there.
           let low : c < x.width = omega (arith, g.within k more c there, x-width) in
-          begins-column schema words g.spelled x i.known at p b relation c low ∙ sym (new c low (column-bit mask c (g.small k) there))
+          begins-column codes schema words g.spelled x i.known at p b relation c low ∙ sym (new c low (column-bit mask c (g.small k) there))
           ∙ sym (with-column x row c low),
       λ c other. ⊎_elim
           (λ low. with-column x row c low ∙ old c (λ bit. other (bit-column mask c (g.small k) bit)) ∙ sym (with-column x values c low))
@@ -349,37 +362,39 @@ module _ {schema words : List ℕ} {j : JoinDependency} {x : Index} {heads nodes
 
     module _ (at : ℕ) (w : Going at) where
       -- What the search from the next set on finds decides
-      pub going-nothing : (row : List ℕ) → Joins schema words x mask w.1.row values row → Searched schema words j x (k + 1) row None → NoneBelow (suc w.1.row)
+      pub going-nothing : (row : List ℕ) → Joins codes schema words x mask w.1.row values row → Searched codes schema words j x (k + 1) row None
+          → NoneBelow (suc w.1.row)
       going-nothing row joins s =
           going-none at w row joins
-          (λ qs b. s qs (subst (λ (n : ℕ). BreaksFrom schema words j x n row qs) (sym (add-one k)) b))
+          (λ qs b. s qs (subst (λ (n : ℕ). BreaksFrom codes schema words j x n row qs) (sym (add-one k)) b))
 
-      pub going-some : (row places : List ℕ) → Joins schema words x mask w.1.row values row → w.1.row < row_count schema words
-          → Has schema words x shared values w.1.row → Searched schema words j x (k + 1) row (Some places)
-          → Searched schema words j x k values (Some (set places k at))
+      pub going-some : (row places : List ℕ) → Joins codes schema words x mask w.1.row values row → w.1.row < row_count schema words
+          → Has codes schema words x shared values w.1.row → Searched codes schema words j x (k + 1) row (Some places)
+          → Searched codes schema words j x k values (Some (set places k at))
       going-some row places joins inside has s = (
         length-set places k at ∙ s.0,
-        going-found at w row places joins inside has s.0 (subst (λ (n : ℕ). FirstFrom schema words j x n row places) (add-one k) s.1),
+        going-found at w row places joins inside has s.0 (subst (λ (n : ℕ). FirstFrom codes schema words j x n row places) (add-one k) s.1),
       )
 
-      pub going-over : length words ≤ at → Searched schema words j x k values None
+      pub going-over : length words ≤ at → Searched codes schema words j x k values None
       going-over past = going_end at w past
 
       -- The way goes on
-      pub going_next : NoneBelow (suc w.1.row) → (r : ℕ) → Reaches schema words x (k + 1) shared mask values (suc w.1.row) r → Going r
+      pub going_next : NoneBelow (suc w.1.row) → (r : ℕ) → Reaches codes schema words x (k + 1) shared mask values (suc w.1.row) r → Going r
       going_next none r next = (suc w.1.row, next, none)
 
   -- After the last set it is decided whether the row is there
-  pub last_set : (values : List ℕ) → length values ≡ 8 → (k : ℕ) → k ≡ j.count → (end : ℕ) → FirstWith schema words x (filled_to j.sets k) values end
-      → Searched schema words j x k values (then_some (eqb end (length words)) (replicate 4 0))
+  pub last_set : (values : List ℕ) → length values ≡ 8 → (k : ℕ) → k ≡ j.count → (end : ℕ) → FirstWith codes schema words x (filled_to j.sets k) values end
+      → Searched codes schema words j x k values (then_some (eqb end (length words)) (replicate 4 0))
   last_set values wide k last end f = go (eqb end (length words)) refl
     where
-      go : (b : Bool) → eqb end (length words) ≡ b → Searched schema words j x k values (then_some b (replicate 4 0))
+      go : (b : Bool) → eqb end (length words) ≡ b → Searched codes schema words j x k values (then_some b (replicate 4 0))
       go true t = (refl, leaf-some values wide k last end f (eqb-true end (length words) t))
       go false t = leaf-none values wide k last end f (eqb-false end (length words) t)
 
 -- A row that has values begins with the relation
-pub has_word : {schema words : List ℕ} {j : JoinDependency} (x : Index) → Searchable schema words j → (columns : ℕ) (values : List ℕ) (at p : ℕ)
-    → BeginsAt schema words at p → Has schema words x columns values p → get_or words at 0 ≡ x.relation
-has_word {schema} {words} x g columns values at p b has =
-    ap (λ (n : ℕ). get_or words n 0) b.0 ∙ sym (start-relation schema words g.spelled p b.1) ∙ has.0
+pub has_word : (codes : List CodePair) {schema words : List ℕ} {j : JoinDependency} (x : Index) → Searchable schema words j
+    → (columns : ℕ) (values : List ℕ) (at p : ℕ)
+    → BeginsAt schema words at p → Has codes schema words x columns values p → get_or words at 0 ≡ x.relation
+has_word codes {schema} {words} x g columns values at p b has =
+    ap (λ (n : ℕ). get_or words n 0) b.0 ∙ sym (start-relation codes schema words g.spelled p b.1) ∙ has.0

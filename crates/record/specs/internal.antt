@@ -1,2 +1,3 @@
 -- What functions that are no public call promise.
 pub mod Lookup
+pub mod Reading

@@ -2,12 +2,11 @@
 // is refused. And what the other calls share: places looked up, a record with another content of a place.
 ghost use Rattle.std.specs.Prelude.{◌≡◌, ◌<◌, true};
 ghost use Rattle.std.proofs.Math.Option.{none, some};
-ghost use Rattle.query.specs.Rule.{no_place, good_query, head_safe};
-ghost use Rattle.query.specs.View.{query_of};
-ghost use Rattle.record.specs.View.{schema_of};
+ghost use Rattle.query.specs.Rule.{no_place};
 ghost use Rattle.record.specs.Rule.{good_record};
-ghost use Rattle.record.specs.Calls.{outcome_reply, concluded, is_filled, stored_at, query_at, with_place, with_code, with_dependency, with_join, add_code, add_dependency, add_join, put_query};
+ghost use Rattle.record.specs.Calls.{outcome_reply, concluded, is_filled, stored_at, with_place, with_code, with_dependency, with_join, add_code, add_dependency, add_join, put_query};
 ghost use Rattle.refusals.specs.Refusal.{number_of, reply_of};
+ghost use Rattle.record.specs.internal.Reading.{ReadAs};
 ghost use Rattle.record.specs.internal.Lookup.{place_at, filled_place, vacant_place};
 
 use crate::{Outcome, Record};
@@ -116,9 +115,7 @@ impl Record {
     // The query that a place holds, as it is read.
     pub fn query(self, place: usize) -> Query
         requires { (place < 8) × (good_record self ≡ true) × (is_filled self place ≡ true) }
-        ensures query { query_of (schema_of self) result ≡ query_at self place }
-        ensures good { good_query (schema_of self) result ≡ true }
-        ensures safe { head_safe (schema_of self) result ≡ true }
+        ensures { ReadAs self place result }
     {
         self.codes().read_query(self.schema(), stored(self, place))
     }

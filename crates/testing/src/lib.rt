@@ -1,11 +1,12 @@
-// The first of some dependencies that rows break, with its first pair of rows: one walk over the rows for each dependency, which skips to a row that
-// may be the first of a pair. A dependency whose left columns contain a key that an earlier walk has seen is obeyed, and needs no walk.
+// The first of some dependencies that rows break as they are read, with its first pair of rows: one walk over the rows for each dependency, which skips to
+// a row that may be the first of a pair. A dependency whose left columns contain a key that an earlier walk has seen is obeyed, and needs no walk.
 // The lent slices hold tables of `grouping`: the larger they are, the fewer walks. What they hold before does not matter.
 #![tactic(auto)]
 
 ghost use Rattle.std.specs.Prelude.{ℕ, ◌≡◌, true, ◌+◌, ◌≤◌, ◌<◌, length, map, get_or};
 ghost use Rattle.query.specs.View.{dependency_of};
-ghost use Rattle.words.specs.Words.{spells_rows, database_of};
+ghost use Rattle.codes.specs.internal.Codes.{codes_in};
+ghost use Rattle.words.specs.Words.{spells_rows, database_read};
 ghost use Rattle.words.specs.Testing.{first_pair_from, first_broken_from};
 ghost use Rattle.words.specs.Broken.{violation_of};
 ghost use Rattle.words.specs.internal.Found.{pair_of, Testable};
@@ -15,6 +16,7 @@ ghost use Rattle.grouping.specs.internal.Groups.{Key};
 ghost use Rattle.testing.specs.internal.Keyed.{KeyIn, Keyed};
 ghost use Rattle.testing.specs.internal.Tested.{Tested};
 
+use codes::pairs::Codes;
 use grouping::End;
 use query::Dependency;
 use words::{Position, Violation};
@@ -38,6 +40,7 @@ fn has_key(keys: &[Option<Dependency>], d: Dependency) -> bool
 
 // The first pair of rows that break the dependency, by their positions. That the left columns are distinct is seen only by a walk over all rows.
 fn first_pair(
+    codes: &Codes,
     schema: &[u8],
     words: &[u32],
     d: Dependency,
@@ -46,13 +49,13 @@ fn first_pair(
 ) -> End<(usize, usize)>
     requires testable { Testable schema.now d }
     requires words_value { spells_rows schema.now words.now ≡ true }
-    ensures { Tested (dependency_of d) (database_of schema.now words.now) result }
+    ensures { Tested (dependency_of d) (database_read (codes_in codes.now) schema.now words.now) result }
 {
     let relation = d.relation as u32;
     let mut place = words::FIRST;
     // Kept as it is: a skip may pass many rows, and the next search is of the words from there on.
     while place.at < words.len() {
-        let row = match grouping::skip(schema, &words[place.at..], d, heads, nodes) {
+        let row = match grouping::skip(codes, schema, &words[place.at..], d, heads, nodes) {
             End::Found(row) => row,
             End::Nothing => return End::Nothing,
             End::Distinct => {
@@ -72,7 +75,7 @@ fn first_pair(
             number: first.number + 1,
         };
         if words[first.at] == relation {
-            if let Some(second) = words::first_partner(schema, words, d, first.at, after) {
+            if let Some(second) = words::first_partner(codes, schema, words, d, first.at, after) {
                 return End::Found((first.number, second));
             }
         }
@@ -83,6 +86,7 @@ fn first_pair(
 
 // The first of the held dependencies that the rows break, with its first pair of rows.
 pub fn first_violation(
+    codes: &Codes,
     schema: &[u8],
     words: &[u32],
     dependencies: &[Dependency],
@@ -92,7 +96,7 @@ pub fn first_violation(
     requires held_bound { length dependencies.now ≤ 32 }
     requires by_index { (k : ℕ) → k < length dependencies.now → Testable schema.now (get_or dependencies.now k no_dependency) }
     requires words_value { spells_rows schema.now words.now ≡ true }
-    ensures { result ≡ violation_of (first_broken_from 0 (map dependency_of dependencies.now) (database_of schema.now words.now)) }
+    ensures { result ≡ violation_of (first_broken_from 0 (map dependency_of dependencies.now) (database_read (codes_in codes.now) schema.now words.now)) }
 {
     // few rows need few buckets, which are cleared for each dependency
     let buckets = heads.len().min(words.len());
@@ -102,7 +106,7 @@ pub fn first_violation(
         if has_key(&keys, d) {
             continue;
         }
-        match first_pair(schema, words, d, used, nodes) {
+        match first_pair(codes, schema, words, d, used, nodes) {
             End::Found((first, second)) => {
                 return Some(Violation::Functional {
                     dependency: k,

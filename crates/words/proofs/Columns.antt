@@ -8,15 +8,19 @@ use native.Mathlib.Numerals.{add-one}
 use native.Mathlib.Omega.{arith}
 use lib.Dec.{eqb}
 use borrow.Author.Tests.{eqb-true, eqb-false, eq-eqb, ne_eqb}
-use lib.ListN.{take, drop, get_or, get_or-map}
-use lib.Seq.{get_or-take, get_or-drop}
+use lib.ListN.{length, take, drop, get_or, get_or-map, set, length-drop, length-set}
+use lib.Seq.{ext_get_or, get_or-take, get_or-drop, length-take-le, get_or-set_same, get_or-set_other}
+use mathlib.Core.Logic.{⊎_elim}
+use Rattle.lists.proofs.Tests.{below-or-past}
+use Rattle.std.proofs.lemmas.List as lists
 use Rattle.std.specs.List.{list_all, range_with_len}
 use Rattle.theory.specs.Query.{constant, column, map_row, same_entry}
 use Rattle.theory.specs.Chase.{agree, breaks}
+use Rattle.theory.specs.Codes.{CodePair, read_code}
 use Rattle.query.specs.View.{columns_from, columns_of, dependency_of}
 use Rattle.query.specs.declared.Dependency.{Dependency}
 use Rattle.query.proofs.Stored.{no-columns}
-use Rattle.words.specs.internal.Rows.{span_at, agree_rows}
+use Rattle.words.specs.internal.Rows.{span_read, agree_rows}
 use Rattle.words.specs.Testing.{breaks_rows}
 
 -- ---- the columns of a mask
@@ -46,28 +50,69 @@ next-column mask c = div-div-eq-div-mul mask (2 ^ c) 2 ∙ ap (λ (k : ℕ). mas
 
 -- ---- the columns of a row
 
--- column c of the row at a word
-pub span-column : (width : ℕ) (words : List ℕ) (at c : ℕ) → c < width
-    → column (constant 0) (map_row constant (span_at width words at)) c ≡ constant (get_or words (at + 1 + c) 0)
-span-column width words at c h =
+-- column c of the row at a word, as it is read
+pub span-value : (codes : List CodePair) (width : ℕ) (words : List ℕ) (at c : ℕ) → c < width → at + 1 + width ≤ length words
+    → column 0 (span_read codes width words at) c ≡ read_code codes (get_or words (at + 1 + c) 0)
+span-value codes width words at c h room =
     let e : suc at + c ≡ at + 1 + c = omega arith in
-    get_or-map constant (take width (drop (suc at) words)) c 0
-    ∙ ap constant (get_or-take width (drop (suc at) words) c 0 h ∙ get_or-drop (suc at) words c 0 ∙ ap (λ (n : ℕ). get_or words n 0) e)
+    let size : length (drop (suc at) words) ≡ length words - suc at = length-drop (suc at) words in
+    let due : length (take width (drop (suc at) words)) ≡ width = length-take-le width (drop (suc at) words) (omega arith) in
+    lists.get_or-map (read_code codes) (take width (drop (suc at) words)) c 0 0 (omega arith)
+    ∙ ap (read_code codes) (get_or-take width (drop (suc at) words) c 0 h ∙ get_or-drop (suc at) words c 0 ∙ ap (λ (n : ℕ). get_or words n 0) e)
 
-module _ (width : ℕ) (words : List ℕ) (a b : ℕ) where
+pub span-column : (codes : List CodePair) (width : ℕ) (words : List ℕ) (at c : ℕ) → c < width → at + 1 + width ≤ length words
+    → column (constant 0) (map_row constant (span_read codes width words at)) c ≡ constant (read_code codes (get_or words (at + 1 + c) 0))
+span-column codes width words at c h room =
+    get_or-map constant (span_read codes width words at).values c 0 ∙ ap constant (span-value codes width words at c h room)
+
+-- The values of the row at a word, read up to column c
+pub record ReadTo (codes : List CodePair) (words : List ℕ) (at : ℕ) (row : List ℕ) (c : ℕ) : Type 0 where
+  pub size : length row ≡ 8
+  pub done : (d : ℕ) → d < c → get_or row d 0 ≡ read_code codes (get_or words (at + 1 + d) 0)
+
+module _ (codes : List CodePair) (words : List ℕ) (at : ℕ) (row : List ℕ) (c : ℕ) where
+  pub read-more : (x : ℕ) → ReadTo codes words at row c → c < 8 → x ≡ read_code codes (get_or words (at + 1 + c) 0)
+      → ReadTo codes words at (set row c x) (c + 1)
+  read-more x r low is =
+      record {
+        size = length-set row c x ∙ r.size;
+        done =
+            λ d less. ⊎_elim
+            (λ before. get_or-set_other row c d x 0 (λ same. omega arith) ∙ r.done d before)
+            (λ past.
+            let same : d ≡ c = omega arith in
+            ap (λ (n : ℕ). get_or (set row c x) n 0) same ∙ get_or-set_same row c x 0 (omega (arith, r.size)) ∙ is
+            ∙ ap (λ (n : ℕ). read_code codes (get_or words (at + 1 + n) 0)) (sym same)) (below-or-past d c);
+      }
+
+  pub read-all : (width : ℕ) → ReadTo codes words at row c → width ≤ c → width ≤ 8 → at + 1 + width ≤ length words
+      → take width row ≡ (span_read codes width words at).values
+  read-all width r past narrow room =
+      let size : length (take width row) ≡ width = length-take-le width row (omega (arith, r.size)) in
+      let rest : length (drop (suc at) words) ≡ length words - suc at = length-drop (suc at) words in
+      let due : length (take width (drop (suc at) words)) ≡ width = length-take-le width (drop (suc at) words) (omega arith) in
+      let same : length (span_read codes width words at).values ≡ width = lists.length-map (take width (drop (suc at) words)) (read_code codes) ∙ due in
+      ext_get_or 0 (take width row) (span_read codes width words at).values (size ∙ sym same)
+      (λ d low.
+      let less : d < width = omega arith in
+      get_or-take width row d 0 less ∙ r.done d (omega arith) ∙ sym (span-value codes width words at d less room))
+
+module _ (codes : List CodePair) (width : ℕ) (words : List ℕ) (a b : ℕ) (room-a : a + 1 + width ≤ length words) (room-b : b + 1 + width ≤ length words) where
   -- whether the two rows agree on the columns of a mask that starts at column c
   pub agree_from : ℕ → ℕ → Bool
-  agree_from c mask = agree (columns_from c (width - c) mask) (map_row constant (span_at width words a)) (map_row constant (span_at width words b))
+  agree_from c mask =
+      agree (columns_from c (width - c) mask) (map_row constant (span_read codes width words a)) (map_row constant (span_read codes width words b))
 
   -- the two rows have the same value in a column exactly when their words there are equal
   pub same-column : (c : ℕ) → c < width
-      → same_entry (column (constant 0) (map_row constant (span_at width words a)) c) (column (constant 0) (map_row constant (span_at width words b)) c)
-      ≡ eqb (get_or words (a + 1 + c) 0) (get_or words (b + 1 + c) 0)
+      → same_entry (column (constant 0) (map_row constant (span_read codes width words a)) c)
+      (column (constant 0) (map_row constant (span_read codes width words b)) c)
+      ≡ eqb (read_code codes (get_or words (a + 1 + c) 0)) (read_code codes (get_or words (b + 1 + c) 0))
   unfolding same_entry
-  same-column c h = rw (span-column width words a c h, span-column width words b c h)
+  same-column c h = rw (span-column codes width words a c h room-a, span-column codes width words b c h room-b)
 
   pub agree-start : (mask : ℕ) → width ≤ 8 → mask < 2 ^ width
-      → agree (columns_of mask) (map_row constant (span_at width words a)) (map_row constant (span_at width words b)) ≡ agree_from 0 mask
+      → agree (columns_of mask) (map_row constant (span_read codes width words a)) (map_row constant (span_read codes width words b)) ≡ agree_from 0 mask
   unfolding agree_from
   agree-start mask h below =
       let e : width - 0 ≡ width = omega arith in
@@ -80,22 +125,38 @@ module _ (width : ℕ) (words : List ℕ) (a b : ℕ) where
       let f : c + 1 ≡ suc c = omega arith in
       rw (e, columns-clear c (width - (c + 1)) mask clear, f)
 
-  pub agree_same : (c mask : ℕ) → c < width → mask % 2 ≡ 1 → get_or words (a + 1 + c) 0 ≡ get_or words (b + 1 + c) 0 → agree_from c mask ≡ agree_from (c + 1)
+  pub agree_same : (c mask : ℕ) → c < width → mask % 2 ≡ 1 → read_code codes (get_or words (a + 1 + c) 0) ≡ read_code codes (get_or words (b + 1 + c) 0)
+      → agree_from c mask ≡ agree_from (c + 1)
       (mask / 2)
   unfolding agree_from agree
   agree_same c mask h bit same =
       let e : width - c ≡ suc (width - (c + 1)) = omega arith in
       let f : c + 1 ≡ suc c = omega arith in
-      rw (e, columns-set c (width - (c + 1)) mask bit, f, same-column c h, eq-eqb (get_or words (a + 1 + c) 0) (get_or words (b + 1 + c) 0) same)
+      rw (
+        e,
+        columns-set c (width - (c + 1)) mask bit,
+        f,
+        same-column c h,
+        eq-eqb (read_code codes (get_or words (a + 1 + c) 0))
+            (read_code codes (get_or words (b + 1 + c) 0)) same,
+      )
 
-  pub agree_differ : (c mask : ℕ) → c < width → mask % 2 ≡ 1 → (get_or words (a + 1 + c) 0 ≡ get_or words (b + 1 + c) 0 → ⊥) → agree_from c mask ≡ false
+  pub agree_differ : (c mask : ℕ) → c < width → mask % 2 ≡ 1 → (read_code codes (get_or words (a + 1 + c) 0) ≡ read_code codes (get_or words (b + 1 + c) 0) → ⊥)
+      → agree_from c mask ≡ false
   unfolding agree_from agree
   agree_differ c mask h bit differ =
       let e : width - c ≡ suc (width - (c + 1)) = omega arith in
-      rw (e, columns-set c (width - (c + 1)) mask bit, same-column c h, ne_eqb (get_or words (a + 1 + c) 0) (get_or words (b + 1 + c) 0) differ)
+      rw (
+        e,
+        columns-set c (width - (c + 1)) mask bit,
+        same-column c h,
+        ne_eqb (read_code codes (get_or words (a + 1 + c) 0))
+            (read_code codes (get_or words (b + 1 + c) 0)) differ,
+      )
 
   -- past column c, where a column of the mask is the same in both rows
-  pub agree-next : (mask c : ℕ) → c < width → (eqb (mask / 2 ^ c % 2) 1 ≡ true → get_or words (a + 1 + c) 0 ≡ get_or words (b + 1 + c) 0)
+  pub agree-next : (mask c : ℕ) → c < width
+      → (eqb (mask / 2 ^ c % 2) 1 ≡ true → read_code codes (get_or words (a + 1 + c) 0) ≡ read_code codes (get_or words (b + 1 + c) 0))
       → agree_from c (mask / 2 ^ c) ≡ agree_from (c + 1) (mask / 2 ^ (c + 1))
   agree-next mask c h same = go (eqb (mask / 2 ^ c % 2) 1) refl ∙ ap (λ (m : ℕ). agree_from (c + 1) m) (next-column mask c)
     where
@@ -109,13 +170,16 @@ module _ (width : ℕ) (words : List ℕ) (a b : ℕ) where
 
   -- Whether each of n columns from c on is not of the mask or the same in both rows
   pub agree_all : (mask c n : ℕ) → n ≡ width - c
-      → list_all (λ k. not (eqb (mask / 2 ^ k % 2) 1) || eqb (get_or words (a + 1 + k) 0) (get_or words (b + 1 + k) 0)) (range_with_len c n)
+      → list_all (λ k. not (eqb (mask / 2 ^ k % 2) 1) || eqb (read_code codes (get_or words (a + 1 + k) 0)) (read_code codes (get_or words (b + 1 + k) 0)))
+      (range_with_len c n)
       ≡ agree_from c (mask / 2 ^ c)
   agree_all mask c zero size = sym (agree-end c (mask / 2 ^ c) (omega arith))
   agree_all mask c (suc n) size =
-      go (eqb (mask / 2 ^ c % 2) 1) refl (eqb (get_or words (a + 1 + c) 0) (get_or words (b + 1 + c) 0)) refl (agree_all mask (c + 1) n (omega arith))
+      go (eqb (mask / 2 ^ c % 2) 1) refl (eqb (read_code codes (get_or words (a + 1 + c) 0)) (read_code codes (get_or words (b + 1 + c) 0))) refl
+      (agree_all mask (c + 1) n (omega arith))
     where
-      go : (t : Bool) → eqb (mask / 2 ^ c % 2) 1 ≡ t → (u : Bool) → eqb (get_or words (a + 1 + c) 0) (get_or words (b + 1 + c) 0) ≡ u → {rest : Bool}
+      go : (t : Bool) → eqb (mask / 2 ^ c % 2) 1 ≡ t → (u : Bool)
+          → eqb (read_code codes (get_or words (a + 1 + c) 0)) (read_code codes (get_or words (b + 1 + c) 0)) ≡ u → {rest : Bool}
           → rest ≡ agree_from (c + 1) (mask / 2 ^ (c + 1)) → (not t || u) && rest ≡ agree_from c (mask / 2 ^ c)
       go true e true f later = later ∙ sym (agree-next mask c (omega arith) (λ _. eqb-true _ _ f))
       go true e false f later = sym (agree_differ c (mask / 2 ^ c) (omega arith) (eqb-true (mask / 2 ^ c % 2) 1 e) (eqb-false _ _ f))
@@ -123,8 +187,8 @@ module _ (width : ℕ) (words : List ℕ) (a b : ℕ) where
 
   -- two rows of the dependency's relation break it when they agree on the left and differ on the right
   pub breaks-spans : (d : Dependency) → get_or words a 0 ≡ d.relation → get_or words b 0 ≡ d.relation → d.right < width
-      → breaks_rows (dependency_of d) (span_at width words a) (span_at width words b)
-      ≡ agree_rows (dependency_of d) (span_at width words a) (span_at width words b) && not
-      (eqb (get_or words (a + 1 + d.right) 0) (get_or words (b + 1 + d.right) 0))
+      → breaks_rows (dependency_of d) (span_read codes width words a) (span_read codes width words b)
+      ≡ agree_rows (dependency_of d) (span_read codes width words a) (span_read codes width words b) && not
+      (eqb (read_code codes (get_or words (a + 1 + d.right) 0)) (read_code codes (get_or words (b + 1 + d.right) 0)))
   unfolding breaks
   breaks-spans d ra rb right = rw (eq-eqb (get_or words a 0) d.relation ra, eq-eqb (get_or words b 0) d.relation rb, same-column d.right right)

@@ -1,5 +1,6 @@
 -- The laws that the proofs of this crate share.
 pub mod Spelling
+pub mod Reading
 pub mod Columns
 pub mod Search
 pub mod Obeys

@@ -82,7 +82,7 @@ mod engine {
     }
 
     pub fn call(call: u64, x: &Input) {
-        let (mut out, mut mapping, mut answers) = ([0u8; 4445], [0u32; 192], vec![0u32; x.room]);
+        let (mut out, mut mapping, mut answers) = ([0u8; 4574], [0u32; 192], vec![0u32; x.room]);
         let (mut byte, mut a, mut rows) = (0u8, 0usize, [0usize; 4]);
         let (f, n) = (x.file.as_ptr(), x.file.len());
         let (w, m) = (x.words.as_ptr(), x.words.len());

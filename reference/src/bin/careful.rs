@@ -2,6 +2,7 @@
 //! the search asks for no memory. Reading and the chase are the library's; reducing and printing are its own, and so are the mappings that it prints.
 
 use spernevan_reference::chase::chase;
+use spernevan_reference::codes::read_query;
 use spernevan_reference::file::read;
 use spernevan_reference::listing::INPUT_LIMIT;
 use spernevan_reference::record::Entry::{self, Constant, Variable};
@@ -218,10 +219,10 @@ fn list(file: &[u8]) -> Vec<u8> {
         }
     };
     for (p, source) in record.places.iter().enumerate() {
-        let Some(source) = source else { continue };
+        let Some(source) = source.as_ref().map(|q| read_query(&record.codes, q)) else { continue };
         put(&mut out, "place ", p);
         put(&mut out, " rows ", source.rows.len());
-        let chased = chase(&record.dependencies, source);
+        let chased = chase(&record.dependencies, &source);
         if chased.query.is_never() {
             put(&mut out, " never replaced ", chased.count);
             out.push(b'\n');

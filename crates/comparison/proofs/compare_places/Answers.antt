@@ -1,9 +1,8 @@
 -- `comparison::compare_places` meets its contract: each answer is one of the cases of `Answers`. Assumes nothing.
-use mathlib.Core.Path.{◌≡◌, refl, sym, ap, subst, ◌∙◌}
+use mathlib.Core.Path.{◌≡◌, refl, sym, ap, ◌∙◌}
 use mathlib.Core.Bool.{true}
 use lib.ListN.{length, take}
 use borrow.Author.Rules.{rules}
-use Rattle.record.specs.Calls.{stored_at}
 use Rattle.lists.specs.Tests.{every}
 use Rattle.query.specs.Rule.{shaped_join}
 use Rattle.lists.proofs.Loops.{mapped-length}
@@ -11,7 +10,6 @@ use Rattle.query.proofs.Shape.{SizedFor}
 use Rattle.tableaux.specs.internal.Tableaux.{tableau_of}
 use Rattle.join_rule.proofs.Shapes.{argument-shaped}
 use Rattle.join_chase.specs.internal.JoinChased.{IsJoinChased}
-use Rattle.mapping.specs.internal.Mapped.{Storable, Finds}
 use Rattle.record.specs.View.{schema_of}
 use Rattle.comparison.proofs.Pairs.{standing}
 use Rattle.comparison.proofs.Answers.{can-be-chased, parts-within, answers-over, both-storable, answers-never, answers-contained, answers-apart}
@@ -30,29 +28,25 @@ missing : {T : Type 0} (o : Maybe T) (e w : Refusal) → ok_or o e ≡ Err w →
 missing None e w h = (refl, cc)
 missing (Some y) e w h = cc
 
-pub stored-requires : goal.stored-requires
-stored-requires c = (standing c.args.given c.args.p c.args.q c.requires).low-p
+pub query-second-requires : goal.query-second-requires
+query-second-requires c = let s = standing c.args.given c.args.p c.args.q c.requires in (s.low-q, s.good, s.filled-q)
+
+pub query-first-requires : goal.query-first-requires
+query-first-requires c = let s = standing c.args.given c.args.p c.args.q c.requires in (s.low-p, s.good, s.filled-p)
 
 -- The arrays of the first query are as long as its type says
-sized : (c : After-from_query) → SizedFor 12 (stored_at c.args.given c.args.p)
+sized : (c : After-from_query) → SizedFor 12 c.query-first.result
 sized c =
-    let ok = c.stored.type_inv in
-    let here : SizedFor 12 c.stored.result =
+    let ok = c.query-first.type_inv in
     record {
       head = search (mapped-length, rules, ok);
       relations = search (mapped-length, rules, ok);
       cells = search (mapped-length, rules, ok);
     }
-    in
-    subst (SizedFor 12) c.stored.ensures here
-
--- The tableau that is chased is that of the first query
-tableau-is : (c : After-from_query) → c.from_query.result ≡ tableau_of (stored_at c.args.given c.args.p)
-tableau-is c = c.from_query.ensures ∙ ap tableau_of c.stored.ensures
 
 -- The sets of its join dependencies are as many as their type says
 shaped : (c : After-from_query) → every shaped_join c.args.given.joins ≡ true
-shaped c = argument-shaped 4 c.args.given.joins _ c.well_formed.0.1.1.1.1.1.1.1.0
+shaped c = argument-shaped 4 c.args.given.joins _ c.well_formed.0.1.1.1.1.1.1.1.1.1.0
 
 pub shared_ref_as_front-chase : goal.shared_ref_as_front-chase
 shared_ref_as_front-chase c = (parts-within c.args.given c.args.p c.args.q c.requires).0
@@ -67,17 +61,17 @@ pub chase-chased-requires : goal.chase-chased-requires
 chase-chased-requires c =
     let from = (goal.at.chase-chased-requires c).After-from_query in
     let a = c.args in
-    rw (tableau-is from) (can-be-chased a.given a.p a.q c.requires (sized from) (shaped from))
+    rw (c.from_query.ensures) (can-be-chased a.given a.p a.q c.query-first.result c.query-second.result c.requires c.query-first.ensures c.query-second.ensures (sized from) (shaped from))
 
 -- What the chase promises, for the tableau of the first query
 chased : (c : After-chase-chased)
     → IsJoinChased
-    (tableau_of (stored_at c.args.given c.args.p))
+    (tableau_of c.query-first.result)
     (schema_of c.args.given)
     (take c.args.given.held c.args.given.dependencies)
     (take c.args.given.joined c.args.given.joins)
     c.chase-chased.result
-chased c = rw (c.from_query.ensures ∙ ap tableau_of c.stored.ensures) at c.chase-chased.ensures
+chased c = rw (c.from_query.ensures) at c.chase-chased.ensures
 
 -- The chased tableau has room for 24 rows
 room : (c : In_ok-query) → length c.in_ok-query.query.relations ≡ 24
@@ -91,42 +85,36 @@ returns-in_err-query-clause-compared c =
     let left = err_from_is_err_and c.from_residual.result c.from_residual.ensures.1 in
     let none = missing _ _ _ (sym c.ok_or.ensures.value ∙ c.in_err-query.was) in
     rw (left.1, left.2, none.1)
-    (answers-over a.given a.p a.q c.requires (sized from) (shaped from) c.chase-chased.result (chased after) none.0)
+    (answers-over a.given a.p a.q c.query-first.result c.query-second.result c.requires c.query-first.ensures c.query-second.ensures (sized from) (shaped from) c.chase-chased.result (chased after) none.0)
 
 pub returns-then-query-eq0-clause-compared : goal.returns-then-query-eq0-clause-compared
 returns-then-query-eq0-clause-compared c =
     let a = c.args in
     let from = (goal.at.returns-then-query-eq0-clause-compared c).After-from_query in
     let after = (goal.at.returns-then-query-eq0-clause-compared c).After-chase-chased in
-    answers-never a.given a.p a.q c.requires (sized from) (shaped from) c.chase-chased.result (chased after) c.in_ok-query.query (found _ _ _ (sym c.ok_or.ensures.value ∙ c.in_ok-query.was))
+    answers-never a.given a.p a.q c.query-first.result c.query-second.result c.requires c.query-first.ensures c.query-second.ensures (sized from) (shaped from) c.chase-chased.result (chased after) c.in_ok-query.query (found _ _ _ (sym c.ok_or.ensures.value ∙ c.in_ok-query.was))
     c.if-query-eq0.true
-
-pub stored-requires-2 : goal.stored-requires-2
-stored-requires-2 c = (standing c.args.given c.args.p c.args.q c.requires).low-q
 
 pub find-requires : goal.find-requires
 find-requires c =
     let a = c.args in
     let from = (goal.at.find-requires c).After-from_query in
     let after = (goal.at.find-requires c).After-chase-chased in
-    let both = both-storable a.given a.p a.q c.requires (sized from) (shaped from) c.chase-chased.result (chased after) c.in_ok-query.query (found _ _ _ (sym c.ok_or.ensures.value ∙ c.in_ok-query.was)) in
-    (subst Storable (sym c.stored-2.ensures) both.0, both.1)
+    let both = both-storable a.given a.p a.q c.query-first.result c.query-second.result c.requires c.query-first.ensures c.query-second.ensures (sized from) (shaped from) c.chase-chased.result (chased after) c.in_ok-query.query (found _ _ _ (sym c.ok_or.ensures.value ∙ c.in_ok-query.was)) in
+    both
 
 pub returns-in-Some-clause-compared : goal.returns-in-Some-clause-compared
 returns-in-Some-clause-compared c =
     let a = c.args in
     let from = (goal.at.returns-in-Some-clause-compared c).After-from_query in
     let after = (goal.at.returns-in-Some-clause-compared c).After-chase-chased in
-    -- what the search for a mapping promises, from the second query
-    let finds : Finds (stored_at a.given a.q) c.in_ok-query.query c.find.result = rw c.stored-2.ensures at c.find.ensures in
-    answers-contained a.given a.p a.q c.requires (sized from) (shaped from) c.chase-chased.result (chased after) c.in_ok-query.query (found _ _ _ (sym c.ok_or.ensures.value ∙ c.in_ok-query.was))
-    c.find.result finds c.in-Some.images c.in-Some.is
+    answers-contained a.given a.p a.q c.query-first.result c.query-second.result c.requires c.query-first.ensures c.query-second.ensures (sized from) (shaped from) c.chase-chased.result (chased after) c.in_ok-query.query (found _ _ _ (sym c.ok_or.ensures.value ∙ c.in_ok-query.was))
+    c.find.result c.find.ensures c.in-Some.images c.in-Some.is
 
 pub returns-in-None-clause-compared : goal.returns-in-None-clause-compared
 returns-in-None-clause-compared c =
     let a = c.args in
     let from = (goal.at.returns-in-None-clause-compared c).After-from_query in
     let after = (goal.at.returns-in-None-clause-compared c).After-chase-chased in
-    let finds : Finds (stored_at a.given a.q) c.in_ok-query.query c.find.result = rw c.stored-2.ensures at c.find.ensures in
-    answers-apart a.given a.p a.q c.requires (sized from) (shaped from) c.chase-chased.result (chased after) c.in_ok-query.query (found _ _ _ (sym c.ok_or.ensures.value ∙ c.in_ok-query.was))
-    c.find.result finds (room (goal.at.returns-in-None-clause-compared c).In_ok-query) c.if-query-eq0.false c.in-None.is
+    answers-apart a.given a.p a.q c.query-first.result c.query-second.result c.requires c.query-first.ensures c.query-second.ensures (sized from) (shaped from) c.chase-chased.result (chased after) c.in_ok-query.query (found _ _ _ (sym c.ok_or.ensures.value ∙ c.in_ok-query.was))
+    c.find.result c.find.ensures (room (goal.at.returns-in-None-clause-compared c).In_ok-query) c.if-query-eq0.false c.in-None.is

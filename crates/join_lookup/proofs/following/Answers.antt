@@ -36,12 +36,12 @@ returns-then-x-eq0 c = let s = c in
     let t = c in
     let a = s.args in
     let p = s.requires.by_index in
-    λ columns set from values heads small wide table g.
-    let i = reach-inside a.schema.now a.words.now s.requires.words_value.0 a.x s.requires.words_value.1 a.t columns set values from a.at p.0 p.1 g in
+    λ pairs columns set from values heads small wide table g.
+    let i = reach-inside pairs a.schema.now a.words.now s.requires.words_value.0 a.x s.requires.words_value.1 a.t columns set values from a.at p.0 p.1 g in
     let n = start-next a.schema.now a.words.now s.requires.words_value.0 g.row i.1 in
     let e : c.next.result ≡ start_of a.schema.now a.words.now (suc g.row) =
     c.next.ensures.place ∙ ap (λ (m : ℕ). m + 1 + get_or a.schema.now (get_or a.words.now m 0) 0) g.place ∙ sym n.place in
-    reach-next a.schema.now a.words.now s.requires.words_value.0 a.x s.requires.words_value.1 a.t columns set values t.if-x-eq0.true from a.at
+    reach-next pairs a.schema.now a.words.now s.requires.words_value.0 a.x s.requires.words_value.1 a.t columns set values t.if-x-eq0.true from a.at
     c.next.result g i.1 e
 
 pub overflow_mul-result : goal.overflow_mul-result
@@ -65,7 +65,8 @@ returns c = let s = c in
     let a = s.args in
     let p = s.requires.by_index in
     let some : 0 < a.x.buckets = omega (arith, e.if-x-eq0.false) in
-    λ columns set from values heads small wide table g.
-    let i = reach-inside a.schema.now a.words.now s.requires.words_value.0 a.x s.requires.words_value.1 a.t columns set values from a.at p.0 p.1 g in
-    reach-link a.schema.now a.words.now s.requires.words_value.0 a.x s.requires.words_value.1 a.t columns set values small wide some heads a.nodes.now from a.at
+    λ pairs columns set from values heads small wide table g.
+    let i = reach-inside pairs a.schema.now a.words.now s.requires.words_value.0 a.x s.requires.words_value.1 a.t columns set values from a.at p.0 p.1 g in
+    reach-link pairs a.schema.now a.words.now s.requires.words_value.0 a.x s.requires.words_value.1 a.t columns set values small wide some heads a.nodes.now
+    from a.at
     (table some) g i.1

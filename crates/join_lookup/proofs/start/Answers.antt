@@ -20,7 +20,8 @@ room c = let s = c in
 pub returns-then-x-eq0 : goal.returns-then-x-eq0
 returns-then-x-eq0 c = let s = c in
     let a = s.args in
-    λ set nodes table. reach-first a.schema.now a.words.now s.requires.words_value.0 a.x s.requires.words_value.1 a.t a.columns set a.values c.if-x-eq0.true
+    λ pairs set nodes table. reach-first pairs a.schema.now a.words.now s.requires.words_value.0 a.x s.requires.words_value.1 a.t a.columns set a.values
+    c.if-x-eq0.true
 
 pub returns : goal.returns
 returns c = let s = c in
@@ -28,6 +29,6 @@ returns c = let s = c in
     let b = c in
     let e = c in
     let size : length a.values ≡ 8 = search rules in
-    λ set nodes table.
-    reach-head a.schema.now a.words.now s.requires.words_value.0 a.x s.requires.words_value.1 a.t a.columns set a.values s.ranges.columns.fits
+    λ pairs set nodes table.
+    reach-head pairs a.schema.now a.words.now s.requires.words_value.0 a.x s.requires.words_value.1 a.t a.columns set a.values s.ranges.columns.fits
     (omega (arith, s.requires.words_value.1.narrow)) a.heads.now nodes b.bucket-b.result b.bucket-b.ensures.0 b.bucket-b.ensures.1 (table (some (goal.at.returns c).Else-x-eq0))

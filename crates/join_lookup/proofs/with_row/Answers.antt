@@ -9,6 +9,7 @@ use borrow.Author.Tests.{eqb-true, eq-eqb}
 use borrow.Author.Rules.{rules}
 use Rattle.join_lookup.proofs.Putting.{PutIn, put-here, put-not}
 use Rattle.join_lookup.proofs.with_row.Goals as goal
+use Rattle.codes.specs.internal.Codes.{codes_in}
 use Rattle.join_lookup.proofs.with_row.Goals.{then-has_column, else-has_column}
 
 pub loop-c-init : goal.loop-c-init
@@ -20,11 +21,11 @@ loop-c-preserved c =
     let l = c.loop-c in
     let low : l.c < 8 = omega (arith, c.loop-c-test.true, c.requires.1) in
     elim c.if-has_column.branch [
-      | then-has_column w ↦ subst (λ (r : List ℕ). PutIn a.words.now a.at a.set a.values r (l.c + 1)) (sym w.row-is)
-          (put-here a.words.now a.at a.set a.values l.row l.c w.value.result l.invariant low
+      | then-has_column w ↦ subst (λ (r : List ℕ). PutIn (codes_in a.codes.now) a.words.now a.at a.set a.values r (l.c + 1)) (sym w.row-is)
+          (put-here (codes_in a.codes.now) a.words.now a.at a.set a.values l.row l.c w.value.result l.invariant low
           (eqb-true _ 1 (sym c.has_column.ensures ∙ w.if-has_column.true)) w.value.ensures)
-      | else-has_column w ↦ subst (λ (r : List ℕ). PutIn a.words.now a.at a.set a.values r (l.c + 1)) (sym w.row-is)
-          (put-not a.words.now a.at a.set a.values l.row l.c l.invariant
+      | else-has_column w ↦ subst (λ (r : List ℕ). PutIn (codes_in a.codes.now) a.words.now a.at a.set a.values r (l.c + 1)) (sym w.row-is)
+          (put-not (codes_in a.codes.now) a.words.now a.at a.set a.values l.row l.c l.invariant
           (λ bit. false≢true (sym w.if-has_column.false ∙ c.has_column.ensures ∙ eq-eqb _ 1 bit)))
     ]
 

@@ -12,6 +12,7 @@ use Rattle.join_lookup.proofs.Starting.{start-next, inside-start, outside-start}
 use Rattle.join_parts.specs.internal.Parts.{Chained}
 use Rattle.join_parts.proofs.Chaining.{chained-none}
 use Rattle.join_parts.proofs.chain.Goals as goal
+use Rattle.codes.specs.internal.Codes.{codes_in}
 use Rattle.join_parts.proofs.chain.Goals.{In-Some}
 
 -- The row at which the walk stands is there
@@ -45,8 +46,8 @@ loop-row-init c =
       omega (arith, number),
       size,
       refl,
-      subst (λ (n : ℕ). Chained c.args.schema.now c.args.words.now c.args.x n c.fill.new.self c.args.links.now) (sym number)
-          (chained-none c.args.schema.now c.args.words.now c.args.x c.fill.new.self c.args.links.now empty),
+      subst (λ (n : ℕ). Chained (codes_in c.args.codes.now) c.args.schema.now c.args.words.now c.args.x n c.fill.new.self c.args.links.now) (sym number)
+          (chained-none (codes_in c.args.codes.now) c.args.schema.now c.args.words.now c.args.x c.fill.new.self c.args.links.now empty),
     )
 
 pub link_row-requires-clause-by_index : goal.link_row-requires-clause-by_index
@@ -73,7 +74,7 @@ loop-row-preserved c =
       omega (arith, number, low i),
       c.link_row.ensures.heads_len_unchanged ∙ l.invariant.4,
       c.link_row.ensures.links_len_unchanged ∙ l.invariant.5,
-      subst (λ (n : ℕ). Chained S W a.x n c.link_row.new.heads c.link_row.new.links) (sym number)
+      subst (λ (n : ℕ). Chained (codes_in a.codes.now) S W a.x n c.link_row.new.heads c.link_row.new.links) (sym number)
           (c.link_row.ensures.by_index_2 p.number (begins i, low i) l.invariant.6),
     )
 
@@ -83,4 +84,4 @@ returns-clause-chained c =
     let end = ended l.invariant.0 l.invariant.1 c.in-None.ensures.steps in
     let all : l.row-iterator.place.number ≡ row_count c.args.schema.now c.args.words.now =
     outside-start c.args.schema.now c.args.words.now c.requires.words_value.0 l.row-iterator.place.number l.invariant.3 (omega (arith, l.invariant.2, end)) in
-    subst (λ (n : ℕ). Chained c.args.schema.now c.args.words.now c.args.x n l.heads l.links) all l.invariant.6
+    subst (λ (n : ℕ). Chained (codes_in c.args.codes.now) c.args.schema.now c.args.words.now c.args.x n l.heads l.links) all l.invariant.6

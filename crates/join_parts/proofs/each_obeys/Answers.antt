@@ -11,11 +11,12 @@ use lib.Seq.{take_all}
 use Rattle.std.specs.Prelude.{Option as Maybe}
 use Rattle.std.specs.Option.{is_some}
 use Rattle.query.specs.View.{join_of}
-use Rattle.words.specs.Words.{database_of}
 use Rattle.join_testing.specs.Unmet.{first_choice}
 use Rattle.lists.proofs.Tests.{below-or-past}
 use Rattle.join_testing.specs.internal.Search.{rows_chosen}
 use Rattle.join_parts.specs.internal.Parts.{PartObeys}
+use Rattle.codes.specs.internal.Codes.{codes_in}
+use Rattle.words.specs.Words.{database_read}
 use Rattle.join_parts.proofs.each_obeys.Goals as goal
 
 -- No rows are chosen only where there is no choice
@@ -33,11 +34,12 @@ loop-b-preserved c =
       λ d h. ⊎_elim (λ less. l.invariant.0 d less)
           (λ past.
           let e : l.b ≡ d = omega arith in
-          subst (PartObeys a.schema.now a.words.now a.j a.x) e (
+          subst (PartObeys (codes_in a.codes.now) a.schema.now a.words.now a.j a.x) e (
             part,
-            c.gather-start.ensures.part,
-            no_rows (first_choice a.schema.now (join_of a.j) (database_of a.schema.now part)) c.first_choice.result
-                (c.first_choice.ensures ∙ ap (λ (w : List ℕ). rows_chosen (first_choice a.schema.now (join_of a.j) (database_of a.schema.now w))) whole)
+            c.gather-start.ensures.part (codes_in a.codes.now) c.requires.chained,
+            no_rows (first_choice a.schema.now (join_of a.j) (database_read (codes_in a.codes.now) a.schema.now part)) c.first_choice.result
+                (c.first_choice.ensures ∙ ap (λ (w : List ℕ). rows_chosen
+                (first_choice a.schema.now (join_of a.j) (database_read (codes_in a.codes.now) a.schema.now w))) whole)
                 (sym c.is_some.ensures ∙ c.if-is_some.false),
           ))
           (below-or-past d l.b),

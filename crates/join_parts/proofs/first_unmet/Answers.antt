@@ -8,7 +8,6 @@ use Rattle.theory.specs.Database as database
 use Rattle.query.specs.View.{join_of}
 use Rattle.query.specs.Rule.{no_join}
 use Rattle.query.specs.declared.JoinDependency.{JoinDependency}
-use Rattle.words.specs.Words.{database_of}
 use lib.Seq.{drop-cons}
 use native.Mathlib.Numerals.{add-one}
 use Rattle.lists.proofs.Loops.{get_or_any}
@@ -16,6 +15,8 @@ use Rattle.join_testing.specs.Unmet.{first_unmet_from, unmet_of}
 use Rattle.join_tables.specs.internal.Indexed.{Searchable}
 use Rattle.join_testing.proofs.Finding.{unmet-found, unmet-later, unmet-end}
 use Rattle.join_parts.proofs.first_unmet.Goals as goal
+use Rattle.codes.specs.internal.Codes.{codes_in}
+use Rattle.words.specs.Words.{database_read}
 use Rattle.join_parts.proofs.first_unmet.Goals.{In-loop-k}
 
 -- What an array that is read past its end gives
@@ -29,14 +30,14 @@ drop-more js k h = rw add-one (drop-cons js k unread h)
 
 -- The search from join dependency k on, by join dependency k and the later ones
 onward : (c : In-loop-k)
-    → first_unmet_from 0 c.args.schema.now (map join_of c.args.joins.now) (database_of c.args.schema.now c.args.words.now)
+    → first_unmet_from 0 c.args.schema.now (map join_of c.args.joins.now) (database_read (codes_in c.args.codes.now) c.args.schema.now c.args.words.now)
     ≡ first_unmet_from c.loop-k.k c.args.schema.now (join_of (get_or c.args.joins.now c.loop-k.k unread)
-    ∷ map join_of (drop (c.loop-k.k + 1) c.args.joins.now)) (database_of c.args.schema.now c.args.words.now)
+    ∷ map join_of (drop (c.loop-k.k + 1) c.args.joins.now)) (database_read (codes_in c.args.codes.now) c.args.schema.now c.args.words.now)
 onward c = let s = c in
     let a = s.args in
     let l = c.loop-k in
     l.invariant.0
-    ∙ ap (λ (x : List database.JoinDependency). first_unmet_from l.k a.schema.now x (database_of a.schema.now a.words.now))
+    ∙ ap (λ (x : List database.JoinDependency). first_unmet_from l.k a.schema.now x (database_read (codes_in a.codes.now) a.schema.now a.words.now))
     (ap (map join_of) (drop-more a.joins.now l.k c.loop-k-test.true))
 
 pub first_choice-found-requires : goal.first_choice-found-requires
@@ -50,14 +51,14 @@ pub returns-in-Some : goal.returns-in-Some
 returns-in-Some c = let a = c.args in
     let k = c.loop-k.k in
     sym (ap unmet_of (onward (goal.at.returns-in-Some c).In-loop-k)
-    ∙ unmet-found a.schema.now (database_of a.schema.now a.words.now) (join_of (get_or a.joins.now k unread))
+    ∙ unmet-found a.schema.now (database_read (codes_in a.codes.now) a.schema.now a.words.now) (join_of (get_or a.joins.now k unread))
     (map join_of (drop (k + 1) a.joins.now)) k c.in-Some.rows (sym c.in-Some.is ∙ c.first_choice-found.ensures))
 
 pub loop-k-preserved : goal.loop-k-preserved
 loop-k-preserved c = let l = c.loop-k in
     let a = c.args in (
       onward (goal.at.loop-k-preserved c).In-loop-k
-          ∙ unmet-later a.schema.now (database_of a.schema.now a.words.now) (join_of (get_or a.joins.now l.k unread))
+          ∙ unmet-later a.schema.now (database_read (codes_in a.codes.now) a.schema.now a.words.now) (join_of (get_or a.joins.now l.k unread))
           (map join_of (drop (l.k + 1) a.joins.now)) l.k (sym c.in_default.is ∙ c.first_choice-found.ensures),
       c.first_choice-found.auto.nodes ∙ l.invariant.1,
       c.first_choice-found.auto.heads ∙ l.invariant.2,
@@ -67,5 +68,7 @@ pub returns : goal.returns
 returns c = let l = c.loop-k in
     let e = c in
     let a = c.args in
-    sym (ap unmet_of (l.invariant.0 ∙ ap (λ (x : List database.JoinDependency). first_unmet_from l.k a.schema.now x (database_of a.schema.now a.words.now))
-    (ap (map join_of) (drop_of_length-le a.joins.now {i = l.k} e.loop-k-test.false)) ∙ unmet-end a.schema.now (database_of a.schema.now a.words.now) l.k))
+    sym (ap unmet_of (l.invariant.0
+    ∙ ap (λ (x : List database.JoinDependency). first_unmet_from l.k a.schema.now x (database_read (codes_in a.codes.now) a.schema.now a.words.now))
+    (ap (map join_of) (drop_of_length-le a.joins.now {i = l.k} e.loop-k-test.false))
+    ∙ unmet-end a.schema.now (database_read (codes_in a.codes.now) a.schema.now a.words.now) l.k))

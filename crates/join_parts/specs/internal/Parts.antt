@@ -5,10 +5,11 @@ use Rattle.std.proofs.Math.Option.{none}
 use Rattle.theory.specs.Query.{Row, ◌∈◌}
 use Rattle.query.specs.View.{columns_of, join_of}
 use Rattle.query.specs.declared.JoinDependency.{JoinDependency}
-use Rattle.words.specs.Words.{database_of, spells_rows}
+use Rattle.words.specs.Words.{database_read, spells_rows}
 use Rattle.tables.specs.internal.Table.{bucket_of}
 use Rattle.join_lookup.specs.internal.Starts.{start_of, row_count, row_of, Of}
 use Rattle.join_testing.specs.Unmet.{first_choice}
+use Rattle.theory.specs.Codes.{CodePair}
 use Rattle.join_parts.specs.declared.Partition.{Partition}
 
 -- Each set of a join dependency has the columns of a mask
@@ -20,32 +21,33 @@ abbrev pub part_of : Partition → List ℕ → ℕ
 part_of x values = bucket_of x.index.buckets x.columns values
 
 -- The row at position p is in part b
-abbrev pub InPart : List ℕ → List ℕ → Partition → ℕ → ℕ → Type 0
-InPart schema words x b p = Of schema words x.index p × (part_of x (row_of schema words p).values ≡ b)
+abbrev pub InPart : List CodePair → List ℕ → List ℕ → Partition → ℕ → ℕ → Type 0
+InPart codes schema words x b p = Of codes schema words x.index p × (part_of x (row_of codes schema words p).values ≡ b)
 
 -- A link to the last of the first n rows, which is in part b; 0 where n is 0
-abbrev pub LinksTo : List ℕ → List ℕ → Partition → ℕ → ℕ → ℕ → Type 0
-LinksTo schema words x b zero r = r ≡ 0
-LinksTo schema words x b (suc p) r = (r ≡ start_of schema words p + 1) × InPart schema words x b p
+abbrev pub LinksTo : List CodePair → List ℕ → List ℕ → Partition → ℕ → ℕ → ℕ → Type 0
+LinksTo codes schema words x b zero r = r ≡ 0
+LinksTo codes schema words x b (suc p) r = (r ≡ start_of schema words p + 1) × InPart codes schema words x b p
 
 -- Of the rows before position m the last in part b is the last of the first `rows`, and r links to it
-pub record Last (schema words : List ℕ) (x : Partition) (b m r : ℕ) : Type 0 where
+pub record Last (codes : List CodePair) (schema words : List ℕ) (x : Partition) (b m r : ℕ) : Type 0 where
   pub rows : ℕ
   pub inside : rows ≤ m
-  pub links : LinksTo schema words x b rows r
-  pub passed : (p : ℕ) → rows ≤ p → p < m → InPart schema words x b p → ⊥
+  pub links : LinksTo codes schema words x b rows r
+  pub passed : (p : ℕ) → rows ≤ p → p < m → InPart codes schema words x b p → ⊥
 
 -- The chains of the rows before position m
-pub record Chained (schema words : List ℕ) (x : Partition) (m : ℕ) (heads links : List ℕ) : Type 0 where
-  pub head : (b : ℕ) → b < x.index.buckets → Last schema words x b m (get_or heads b 0)
-  pub link : (p : ℕ) → p < m → (b : ℕ) → InPart schema words x b p → Last schema words x b p (get_or links (start_of schema words p) 0)
+pub record Chained (codes : List CodePair) (schema words : List ℕ) (x : Partition) (m : ℕ) (heads links : List ℕ) : Type 0 where
+  pub head : (b : ℕ) → b < x.index.buckets → Last codes schema words x b m (get_or heads b 0)
+  pub link : (p : ℕ) → p < m → (b : ℕ) → InPart codes schema words x b p → Last codes schema words x b p (get_or links (start_of schema words p) 0)
 
--- Words that spell rows of the database, among them all of part b
-pub record PartOf (schema words : List ℕ) (x : Partition) (b : ℕ) (part : List ℕ) : Type 0 where
+-- Words whose rows, as they are read, are rows of the database, among them all of part b
+pub record PartOf (codes : List CodePair) (schema words : List ℕ) (x : Partition) (b : ℕ) (part : List ℕ) : Type 0 where
   pub spelled : spells_rows schema part ≡ true
-  pub rows : (r : Row ℕ) → r ∈ database_of schema part → r ∈ database_of schema words
-  pub whole : (p : ℕ) → p < row_count schema words → InPart schema words x b p → row_of schema words p ∈ database_of schema part
+  pub rows : (r : Row ℕ) → r ∈ database_read codes schema part → r ∈ database_read codes schema words
+  pub whole : (p : ℕ) → p < row_count schema words → InPart codes schema words x b p → row_of codes schema words p ∈ database_read codes schema part
 
 -- Part b has no choice of rows that yields a row that is not there
-abbrev pub PartObeys : List ℕ → List ℕ → JoinDependency → Partition → ℕ → Type 0
-PartObeys schema words j x b = (part : List ℕ) × PartOf schema words x b part × (first_choice schema (join_of j) (database_of schema part) ≡ none)
+abbrev pub PartObeys : List CodePair → List ℕ → List ℕ → JoinDependency → Partition → ℕ → Type 0
+PartObeys codes schema words j x b =
+    (part : List ℕ) × PartOf codes schema words x b part × (first_choice schema (join_of j) (database_read codes schema part) ≡ none)

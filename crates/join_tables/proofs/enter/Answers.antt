@@ -7,6 +7,7 @@ use Rattle.join_tables.specs.internal.Filling.{Beside, Roomy}
 use Rattle.join_tables.proofs.Entering.{beside-then, table_beside}
 use Rattle.join_tables.proofs.Filling.{roomy-beside, entered-none, entered-inside, entered_all, entered-begins, entered-less, entered-next}
 use Rattle.join_tables.proofs.enter.Goals as goal
+use Rattle.codes.specs.internal.Codes.{codes_in}
 use Rattle.join_tables.proofs.enter.Goals.{At-loop-at, In-loop-at}
 
 -- The clearing changes nothing but the table, nor does what is entered
@@ -29,7 +30,7 @@ inside : (c : At-loop-at) → c.loop-at.at ≤ length c.args.words.now
 inside c = let s = c in
     let a = s.args in
     let l = c.loop-at in
-    entered-inside a.schema.now a.words.now s.requires.words_value.0 a.x a.t a.columns a.set c.clear.new.heads a.nodes.now
+    entered-inside (codes_in a.codes.now) a.schema.now a.words.now s.requires.words_value.0 a.x a.t a.columns a.set c.clear.new.heads a.nodes.now
     l.heads l.nodes l.at l.invariant
 
 -- The row before begins before
@@ -38,7 +39,7 @@ less c = let l = c.loop-at in
     let d = c in
     let s = d in
     let a = s.args in
-    entered-less a.schema.now a.words.now s.requires.words_value.0 a.x a.t a.columns a.set d.clear.new.heads a.nodes.now
+    entered-less (codes_in a.codes.now) a.schema.now a.words.now s.requires.words_value.0 a.x a.t a.columns a.set d.clear.new.heads a.nodes.now
     l.heads l.nodes l.at l.invariant s.requires.words_value.2 s.requires.roomy.1 c.loop-at-test.true
 
 -- The link is in the slice
@@ -49,7 +50,8 @@ pub loop-at-init : goal.loop-at-init
 loop-at-init c = let d = c in
     let s = d in
     let a = s.args in
-    entered-none a.schema.now a.words.now s.requires.words_value.0 a.x a.t a.columns a.set d.clear.new.heads a.nodes.now d.clear.ensures.by_index
+    entered-none (codes_in a.codes.now) a.schema.now a.words.now s.requires.words_value.0 a.x a.t a.columns a.set d.clear.new.heads a.nodes.now
+    d.clear.ensures.by_index
 
 pub overflow_mul-at : goal.overflow_mul-at
 overflow_mul-at c = let p = (goal.at.overflow_mul-at c).At-loop-at in
@@ -71,7 +73,7 @@ enter_row-requires c = let p = (goal.at.enter_row-requires c).At-loop-at in
       roomy = roomy p;
       by_index = (
         l.invariant.row - 1,
-        entered-begins a.schema.now a.words.now c.requires.words_value.0 a.x a.t a.columns a.set c.clear.new.heads a.nodes.now
+        entered-begins (codes_in a.codes.now) a.schema.now a.words.now c.requires.words_value.0 a.x a.t a.columns a.set c.clear.new.heads a.nodes.now
             l.heads l.nodes l.at l.invariant c.requires.words_value.2 c.requires.roomy.1 c.loop-at-test.true,
       );
       table = λ other. table_beside (beside-all p) 0 a.set 0 0 (omega arith) (λ same. other (sym same)) (c.requires.table other);
@@ -87,7 +89,7 @@ loop-at-preserved c = let u = c in
     let d = i in
     let s = d in
     let a = s.args in
-    entered-next a.schema.now a.words.now s.requires.words_value.0 a.x a.t a.columns a.set d.clear.new.heads a.nodes.now
+    entered-next (codes_in a.codes.now) a.schema.now a.words.now s.requires.words_value.0 a.x a.t a.columns a.set d.clear.new.heads a.nodes.now
     l.heads l.nodes l.at l.invariant s.requires.words_value.2 s.requires.roomy.1 i.loop-at-test.true
     u.enter_row.new.heads u.enter_row.new.nodes u.enter_row.ensures.beside u.enter_row.ensures.by_index_2
 
@@ -98,6 +100,6 @@ returns c = let l = c.loop-at in
     let a = s.args in
     record {
       beside = beside-all (goal.at.returns c).At-loop-at;
-      table_2 = entered_all a.schema.now a.words.now s.requires.words_value.0 a.x a.t a.columns a.set d.clear.new.heads a.nodes.now
+      table_2 = entered_all (codes_in a.codes.now) a.schema.now a.words.now s.requires.words_value.0 a.x a.t a.columns a.set d.clear.new.heads a.nodes.now
           l.heads l.nodes l.at l.invariant c.loop-at-test.false;
     }

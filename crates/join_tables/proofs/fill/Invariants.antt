@@ -2,8 +2,10 @@
 use mathlib.Core.Path.{◌≡◌}
 use lib.ListN.{length}
 use Rattle.join_tables.proofs.Filling.{Levelled}
+use Rattle.codes.specs.internal.Codes.{codes_in}
 use Rattle.join_tables.proofs.fill.Given as goal
 
 abbrev pub invariant-loop-k : goal.invariant-loop-k
 invariant-loop-k l =
-    Levelled l.schema l.words l.fn.j l.x l.heads l.nodes l.filled l.k × (length l.heads ≡ length l.initial.heads) × (length l.nodes ≡ length l.initial.nodes)
+    Levelled (codes_in l.codes) l.schema l.words l.fn.j l.x l.heads l.nodes l.filled l.k × (length l.heads ≡ length l.initial.heads)
+    × (length l.nodes ≡ length l.initial.nodes)

@@ -8,6 +8,7 @@ use Rattle.words.specs.Words.{spells_rows}
 use Rattle.joins.specs.Join.{JoinFits}
 use Rattle.join_lookup.specs.declared.Index.{Index}
 use Rattle.join_lookup.specs.internal.Starts.{Known}
+use Rattle.theory.specs.Codes.{CodePair}
 use Rattle.join_lookup.specs.internal.Tables.{Room, Tabled}
 
 -- The columns of the first k sets
@@ -30,9 +31,9 @@ pub record Searchable (schema words : List ℕ) (j : JoinDependency) : Type 0 wh
   pub within : (k : ℕ) → k < j.count → (c : ℕ) → c ∈ columns_of (get_or j.sets k 0) → c < get_or schema j.relation 0
 
 -- The tables of a join dependency: one for each set, by the columns that it shares with those before, and one of all rows
-pub record Indexed (schema words : List ℕ) (j : JoinDependency) (x : Index) (heads nodes : List ℕ) : Type 0 where
+pub record Indexed (codes : List CodePair) (schema words : List ℕ) (j : JoinDependency) (x : Index) (heads nodes : List ℕ) : Type 0 where
   pub known : Known schema x
   pub relation : x.relation ≡ j.relation
   pub room : Room words x heads nodes
-  pub levels : (k : ℕ) → k < j.count → Tabled schema words x (k + 1) (shared_at j.sets k) (get_or j.sets k 0) heads nodes
-  pub whole : Tabled schema words x 0 (filled_to j.sets j.count) 0 heads nodes
+  pub levels : (k : ℕ) → k < j.count → Tabled codes schema words x (k + 1) (shared_at j.sets k) (get_or j.sets k 0) heads nodes
+  pub whole : Tabled codes schema words x 0 (filled_to j.sets j.count) 0 heads nodes

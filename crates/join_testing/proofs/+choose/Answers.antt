@@ -17,6 +17,7 @@ use Rattle.join_testing.proofs.Arranging.{filled-same, searched-index, plain-ind
 use Rattle.join_testing.proofs.Arranging.{row-begins, row-word, chosen-first, chosen-some}
 use Rattle.join_order.specs.internal.Arranged.{Arranged}
 use Rattle.join_testing.proofs.+choose.Goals as goal
+use Rattle.codes.specs.internal.Codes.{codes_in}
 use Rattle.join_testing.proofs.+choose.Goals.{After-arrange-arranged, In_ok-found, After-with_row-row}
 
 -- The sets as they are arranged
@@ -59,7 +60,8 @@ joins : (t : ℕ) (c : After-with_row-row t) (v : Arranged c.args.j c.arrange-ar
     (h : Searchable c.args.schema.now c.args.words.now c.arrange-arranged.result) (p : ℕ)
     → BeginsAt c.args.schema.now c.args.words.now (get_or c.in_ok-found.found c.args.k 0) p
     → get_or c.args.words.now (get_or c.in_ok-found.found c.args.k 0) 0 ≡ c.args.j.relation
-    → Joins c.args.schema.now c.args.words.now (plainly c.args.schema.now c.args.j) (get_or c.args.j.sets c.args.k 0) p c.args.values c.with_row-row.result
+    → Joins (codes_in c.args.codes.now) c.args.schema.now c.args.words.now (plainly c.args.schema.now c.args.j)
+    (get_or c.args.j.sets c.args.k 0) p c.args.values c.with_row-row.result
 joins t c v h p begins word = let a = c.args in
     let w = c.with_row-row in
     let same = index-plain a.j c.arrange-arranged.result c.build-x-2.result v.relation c.build-x-2.ensures in
@@ -69,7 +71,8 @@ joins t c v h p begins word = let a = c.args in
 pub returns-then-j-k : goal.returns-then-j-k
 returns-then-j-k t c = let a = c.args in
     let x = c.build-x.result in
-    searched-index a.schema.now a.words.now a.j x (plainly a.schema.now a.j) (index-plain a.j a.j x refl c.build-x.ensures) a.k a.values c.search.result c.search.ensures
+    searched-index (codes_in a.codes.now) a.schema.now a.words.now a.j x (plainly a.schema.now a.j)
+    (index-plain a.j a.j x refl c.build-x.ensures) a.k a.values c.search.result c.search.ensures
 
 pub build-x-requires-2 : goal.build-x-requires-2
 build-x-requires-2 t c = searchable t (goal.at.build-x-requires-2 t c).After-arrange-arranged
@@ -88,7 +91,8 @@ search-requires-2-clause-k_le_count t c = let a = c.args in
 pub returns-in_err-found : goal.returns-in_err-found
 returns-in_err-found t c = let p = (goal.at.returns-in_err-found t c).After-arrange-arranged in
     let a = c.args in
-    subst (λ (o : Option (List ℕ)). Searched a.schema.now a.words.now a.j (plainly a.schema.now a.j) a.k a.values o) (sym c.from_residual.ensures)
+    subst (λ (o : Option (List ℕ)). Searched (codes_in a.codes.now) a.schema.now a.words.now a.j (plainly a.schema.now a.j) a.k a.values o)
+    (sym c.from_residual.ensures)
     (arranged-none a.j c.arrange-arranged.result a.k (arranged t p) c.requires.1 c.requires.0 (searchable t p) c.build-x-2.result c.build-x-2.ensures
     a.values c.in_err-found.ensures)
 
@@ -98,7 +102,8 @@ with_row-row-requires t c = let q = goal.at.with_row-row-requires t c in
     let h = searchable t q.After-arrange-arranged in
     let a = c.args in
     let i = c.build-x-2.ensures in (
-      begins-room a.schema.now a.words.now c.requires.0.spelled c.build-x-2.result i.known (get_or c.in_ok-found.found a.k 0) (first t c v h).0
+      begins-room (codes_in a.codes.now) a.schema.now a.words.now c.requires.0.spelled c.build-x-2.result i.known (get_or c.in_ok-found.found a.k 0)
+          (first t c v h).0
           (row_begins t c v h) (row_word t c v h ∙ sym (i.relation ∙ v.relation)),
       i.known.narrow,
     )
@@ -116,7 +121,8 @@ returns-in_err-places t c = let q = goal.at.returns-in_err-places t c in
     let e = q.In_ok-found in
     let a = c.args in
     let f = first t e v h in
-    subst (λ (o : Option (List ℕ)). Searched a.schema.now a.words.now a.j (plainly a.schema.now a.j) a.k a.values o) (sym c.from_residual-in_err-places.ensures)
+    subst (λ (o : Option (List ℕ)). Searched (codes_in a.codes.now) a.schema.now a.words.now a.j (plainly a.schema.now a.j) a.k a.values o)
+    (sym c.from_residual-in_err-places.ensures)
     (λ ps b. absurd (chosen-some a.j c.arrange-arranged.result a.k v c.requires.1 c.requires.0 h c.build-x-2.result c.build-x-2.ensures
     a.values c.in_ok-found.found c.in_ok-found.ensures f.0 f.1 c.with_row-row.result (joins t q.After-with_row-row v h f.0 (row_begins t e v h) (row_word t e v h)) c.in_err-places.ensures))
 

@@ -18,6 +18,7 @@ use Rattle.join_lookup.proofs.Reaching.{reach-less}
 use Rattle.join_testing.proofs.Searching.{NoneBelow, filled_next, shared-256, going-begins, going-other, going-nothing, going-some, going-over}
 use Rattle.join_testing.proofs.Searching.{going_next, last_set, made-joins, has_word}
 use Rattle.join_testing.proofs.+search.Goals as goal
+use Rattle.codes.specs.internal.Codes.{codes_in}
 use Rattle.join_testing.proofs.+search.Goals.{Start, In-loop-at, After-has, After-following-at, then-has+in_default, else-has}
 
 -- The columns that are shared, as the code has them
@@ -32,9 +33,11 @@ begun t c = let v = c.loop-at.invariant in
 -- The row of the candidate has the relation's number first, where it has the values
 holds : (t : ℕ) (c : After-has t) → bit_and (get_or c.args.tables.now.j.sets c.args.k 0) c.args.filled ≡ shared_at c.args.tables.now.j.sets c.args.k
     → BeginsAt c.args.tables.now.schema.now c.args.tables.now.words.now c.loop-at.at c.loop-at.invariant.3.1.row → c.has.result ≡ true
-    → Has c.args.tables.now.schema.now c.args.tables.now.words.now c.args.tables.now.x (shared_at c.args.tables.now.j.sets c.args.k) c.args.values c.loop-at.invariant.3.1.row
+    → Has (codes_in c.args.tables.now.codes.now) c.args.tables.now.schema.now c.args.tables.now.words.now c.args.tables.now.x
+    (shared_at c.args.tables.now.j.sets c.args.k) c.args.values c.loop-at.invariant.3.1.row
 holds t c shared b e = let a = c.args in
-    subst (λ (n : ℕ). Has a.tables.now.schema.now a.tables.now.words.now a.tables.now.x n a.values c.loop-at.invariant.3.1.row) shared
+    subst (λ (n : ℕ). Has (codes_in a.tables.now.codes.now) a.tables.now.schema.now a.tables.now.words.now a.tables.now.x n a.values
+    c.loop-at.invariant.3.1.row) shared
     (c.has.ensures.by_index_2 c.loop-at.invariant.3.1.row b e)
 
 word : (t : ℕ) (c : After-has t) → bit_and (get_or c.args.tables.now.j.sets c.args.k 0) c.args.filled ≡ shared_at c.args.tables.now.j.sets c.args.k
@@ -42,15 +45,17 @@ word : (t : ℕ) (c : After-has t) → bit_and (get_or c.args.tables.now.j.sets 
     → get_or c.args.tables.now.words.now c.loop-at.at 0 ≡ c.args.tables.now.x.relation
 word t c shared b e = let a = c.args in
     let v = c.loop-at.invariant in
-    has_word a.tables.now.x v.0 (shared_at a.tables.now.j.sets a.k) a.values c.loop-at.at v.3.1.row b (holds t c shared b e)
+    has_word (codes_in a.tables.now.codes.now) a.tables.now.x v.0 (shared_at a.tables.now.j.sets a.k) a.values c.loop-at.at v.3.1.row b (holds t c shared b e)
 
 -- The way goes on
-onward : (t : ℕ) (c : After-following-at t) → Reaches c.args.tables.now.schema.now c.args.tables.now.words.now c.args.tables.now.x (c.args.k + 1)
+onward : (t : ℕ) (c : After-following-at t)
+    → Reaches (codes_in c.args.tables.now.codes.now) c.args.tables.now.schema.now c.args.tables.now.words.now c.args.tables.now.x (c.args.k + 1)
     (shared_at c.args.tables.now.j.sets c.args.k) (get_or c.args.tables.now.j.sets c.args.k 0) c.args.values (suc c.loop-at.invariant.3.1.row) c.following-at.result
 onward t c = let a = c.args in
     let v = c.loop-at.invariant in
     let wide : length a.values ≡ 8 = search rules in
-    c.following-at.ensures (shared_at a.tables.now.j.sets a.k) (get_or a.tables.now.j.sets a.k 0) v.3.0 a.values a.tables.now.heads.now
+    c.following-at.ensures (codes_in a.tables.now.codes.now) (shared_at a.tables.now.j.sets a.k)
+    (get_or a.tables.now.j.sets a.k 0) v.3.0 a.values a.tables.now.heads.now
     (shared-256 v.0 v.1 a.k v.2 a.values) (omega (arith, v.1.known.narrow)) (v.1.levels a.k v.2) v.3.1
 
 -- ---- after the last set
@@ -58,9 +63,11 @@ onward t c = let a = c.args in
 pub returns-then-k-tables : goal.returns-then-k-tables
 returns-then-k-tables t c = let a = c.args in
     let wide : length a.values ≡ 8 = search rules in
-    subst (λ (o : Option (List ℕ)). Searched a.tables.now.schema.now a.tables.now.words.now a.tables.now.j a.tables.now.x a.k a.values o) (sym c.then_some.ensures)
+    subst (λ (o : Option (List ℕ)). Searched
+    (codes_in a.tables.now.codes.now) a.tables.now.schema.now a.tables.now.words.now a.tables.now.j a.tables.now.x a.k a.values o) (sym c.then_some.ensures)
     (last_set c.requires.searchable.0 c.requires.searchable.1 a.values wide a.k c.if-k-tables.true c.find-end.result
-    (subst (λ (n : ℕ). FirstWith a.tables.now.schema.now a.tables.now.words.now a.tables.now.x n a.values c.find-end.result) c.requires.k_le_count.1 c.find-end.ensures))
+    (subst (λ (n : ℕ). FirstWith (codes_in a.tables.now.codes.now) a.tables.now.schema.now a.tables.now.words.now a.tables.now.x n a.values c.find-end.result)
+    c.requires.k_le_count.1 c.find-end.ensures))
 
 -- ---- the loop
 
@@ -76,9 +83,11 @@ loop-at-init t c = let a = c.args in
       low,
       (
         0,
-        subst (λ (n : ℕ). Reaches a.tables.now.schema.now a.tables.now.words.now a.tables.now.x (a.k + 1) n mask a.values 0 c.start-at.result) s
-            (c.start-at.ensures mask a.tables.now.nodes.now
-            (subst (λ (n : ℕ). Tabled a.tables.now.schema.now a.tables.now.words.now a.tables.now.x (a.k + 1) n mask a.tables.now.heads.now a.tables.now.nodes.now) (sym s) (i.levels a.k low))),
+        subst (λ (n : ℕ). Reaches (codes_in a.tables.now.codes.now) a.tables.now.schema.now a.tables.now.words.now a.tables.now.x
+            (a.k + 1) n mask a.values 0 c.start-at.result) s
+            (c.start-at.ensures (codes_in a.tables.now.codes.now) mask a.tables.now.nodes.now
+            (subst (λ (n : ℕ). Tabled (codes_in a.tables.now.codes.now) a.tables.now.schema.now a.tables.now.words.now a.tables.now.x
+            (a.k + 1) n mask a.tables.now.heads.now a.tables.now.nodes.now) (sym s) (i.levels a.k low))),
         λ q qs l. absurd (omega arith),
       ),
     )
@@ -91,7 +100,7 @@ with_row-row-requires t c = let p = goal.at.with_row-row-requires t c in
     let a = c.args in
     let v = c.loop-at.invariant in
     let b = begun t p.In-loop-at in (
-      begins-room a.tables.now.schema.now a.tables.now.words.now v.0.spelled a.tables.now.x v.1.known c.loop-at.at v.3.1.row b
+      begins-room (codes_in a.tables.now.codes.now) a.tables.now.schema.now a.tables.now.words.now v.0.spelled a.tables.now.x v.1.known c.loop-at.at v.3.1.row b
           (word t p.After-has (shared-is t p.Start) b c.if-has.true),
       v.1.known.narrow,
     )
@@ -114,7 +123,8 @@ returns-in-Some t c = let p = goal.at.returns-in-Some t c in
     r.result r.ensures.by_index r.ensures.by_index_2 in
     going-some v.0 v.1 a.k v.2 a.values c.loop-at.at v.3 r.result c.in-Some.places joins
     b.1 (holds t p.After-has s b c.if-has.true)
-    (subst (λ (o : Option (List ℕ)). Searched a.tables.now.schema.now a.tables.now.words.now a.tables.now.j a.tables.now.x (a.k + 1) r.result o) c.in-Some.is c.search-found.ensures)
+    (subst (λ (o : Option (List ℕ)). Searched (codes_in a.tables.now.codes.now) a.tables.now.schema.now a.tables.now.words.now a.tables.now.j a.tables.now.x
+    (a.k + 1) r.result o) c.in-Some.is c.search-found.ensures)
 
 pub following-at-requires-clause-by_index : goal.following-at-requires-clause-by_index
 following-at-requires-clause-by_index t c = (c.loop-at.invariant.3.1.row, begun t (goal.at.following-at-requires-clause-by_index t c).In-loop-at)
@@ -125,7 +135,8 @@ loop-at-smaller t c = let a = c.args in
     omega (
       arith,
       c.loop-at-test.true,
-      reach-less a.tables.now.schema.now a.tables.now.words.now v.0.spelled a.tables.now.x v.1.known (a.k + 1) (shared_at a.tables.now.j.sets a.k)
+      reach-less (codes_in a.tables.now.codes.now) a.tables.now.schema.now a.tables.now.words.now v.0.spelled a.tables.now.x v.1.known (a.k + 1)
+          (shared_at a.tables.now.j.sets a.k)
           (get_or a.tables.now.j.sets a.k 0) a.values v.3.1.row c.loop-at.at c.following-at.result v.3.1.place
           (onward t (goal.at.loop-at-smaller t c).After-following-at),
     )
@@ -142,11 +153,14 @@ loop-at-preserved t c = let p = goal.at.loop-at-preserved t c in
           going-nothing v.0 v.1 a.k v.2 a.values c.loop-at.at v.3 w.with_row-row.result
           (made-joins v.0 v.1 a.k v.2 a.values c.loop-at.at v.3.1.row b (word t p.After-has s b w.if-has.true)
           w.with_row-row.result w.with_row-row.ensures.by_index w.with_row-row.ensures.by_index_2)
-          (subst (λ (o : Option (List ℕ)). Searched a.tables.now.schema.now a.tables.now.words.now a.tables.now.j a.tables.now.x (a.k + 1) w.with_row-row.result o) w.in_default.is w.search-found.ensures)
+          (subst (λ (o : Option (List ℕ)). Searched
+          (codes_in a.tables.now.codes.now) a.tables.now.schema.now a.tables.now.words.now a.tables.now.j a.tables.now.x (a.k + 1) w.with_row-row.result o)
+          w.in_default.is w.search-found.ensures)
       | else-has w ↦
           going-other v.0 v.1 a.k v.2 a.values c.loop-at.at v.3
           (λ has. c.has.ensures.by_index_3 v.3.1.row b w.if-has.false
-          (subst (λ (n : ℕ). Has a.tables.now.schema.now a.tables.now.words.now a.tables.now.x n a.values v.3.1.row) (sym s) has))
+          (subst (λ (n : ℕ). Has (codes_in a.tables.now.codes.now) a.tables.now.schema.now a.tables.now.words.now a.tables.now.x n a.values v.3.1.row)
+          (sym s) has))
     ] in
     (v.0, v.1, v.2, going_next v.0 v.1 a.k v.2 a.values c.loop-at.at v.3 none c.following-at.result (onward t p.After-following-at))
 

@@ -4,6 +4,7 @@ use Prim.Native.Nat.{◌-◌, ◌<◌}
 use lib.ListN.{length}
 use Rattle.join_tables.specs.internal.Indexed.{Searchable, Indexed}
 use Rattle.join_testing.proofs.Searching.{Going}
+use Rattle.codes.specs.internal.Codes.{codes_in}
 use Rattle.join_testing.proofs.+search.Given as goal
 
 abbrev pub decreases-search : goal.decreases-search
@@ -11,7 +12,9 @@ decreases-search l = l.tables.now.j.count - l.k
 
 abbrev pub invariant-loop-at : goal.invariant-loop-at
 invariant-loop-at l =
-    (g : Searchable l.tables.schema.now l.tables.words.now l.tables.j) × (i : Indexed l.tables.schema.now l.tables.words.now l.tables.j l.tables.x l.tables.heads.now l.tables.nodes.now) × (more : l.k < l.tables.j.count) × Going g i l.k more l.values l.at
+    (g : Searchable l.tables.schema.now l.tables.words.now l.tables.j)
+    × (i : Indexed (codes_in l.tables.codes.now) l.tables.schema.now l.tables.words.now l.tables.j l.tables.x l.tables.heads.now l.tables.nodes.now)
+    × (more : l.k < l.tables.j.count) × Going g i l.k more l.values l.at
 
 abbrev pub decreases-loop-at : goal.decreases-loop-at
 decreases-loop-at l = length l.tables.words.now - l.at

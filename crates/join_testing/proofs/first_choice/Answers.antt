@@ -12,13 +12,14 @@ use Rattle.join_lookup.proofs.Starting.{start-one}
 use Rattle.join_testing.proofs.Arranging.{some-sets, plain-indexed}
 use Rattle.join_testing.proofs.Finding.{searched-none, searched-some, first-inside}
 use Rattle.join_testing.proofs.first_choice.Goals as goal
+use Rattle.codes.specs.internal.Codes.{codes_in}
 use Rattle.join_testing.proofs.first_choice.Goals.{In_ok-at}
 
 abbrev at : In_ok-at → List ℕ
 at c = c.in_ok-at.at
 
 -- The choice that is found
-first : (c : In_ok-at) → FirstFrom c.args.schema.now c.args.words.now c.args.j (plainly c.args.schema.now c.args.j) 0
+first : (c : In_ok-at) → FirstFrom (codes_in c.args.codes.now) c.args.schema.now c.args.words.now c.args.j (plainly c.args.schema.now c.args.j) 0
     (replicate 8 0) (at c)
 first c = let s = c.in_ok-at.ensures in s.1
 

@@ -9,7 +9,8 @@ use Rattle.theory.specs.Database as database
 use Rattle.query.specs.View.{dependency_of}
 use Rattle.query.specs.declared.Dependency.{Dependency}
 use Rattle.std.specs.Prelude.{Option, None}
-use Rattle.words.specs.Words.{database_of}
+use Rattle.codes.specs.internal.Codes.{codes_in}
+use Rattle.words.specs.Words.{database_read}
 use Rattle.words.specs.Testing.{first_pair_from, first_broken_from}
 use Rattle.words.specs.internal.Found.{pair_of}
 use Rattle.words.specs.Broken.{violation_of}
@@ -30,26 +31,26 @@ drop-more ds k h = rw add-one (drop-cons ds k no_dependency h)
 -- The search from dependency k on, by dependency k and the later ones
 onward : (c : In-loop-k)
     → first_broken_from 0 (map dependency_of c.args.dependencies.now)
-    (database_of c.args.schema.now c.args.words.now)
+    (database_read (codes_in c.args.codes.now) c.args.schema.now c.args.words.now)
     ≡ first_broken_from c.loop-k.k (dependency_of (get_or c.args.dependencies.now c.loop-k.k no_dependency)
     ∷ map dependency_of (drop (c.loop-k.k + 1) c.args.dependencies.now))
-    (database_of c.args.schema.now c.args.words.now)
+    (database_read (codes_in c.args.codes.now) c.args.schema.now c.args.words.now)
 onward c =
     let l = c.loop-k in
     let a = c.args in
     l.invariant.0
-    ∙ ap (λ (x : List database.Dependency). first_broken_from l.k x (database_of a.schema.now a.words.now))
+    ∙ ap (λ (x : List database.Dependency). first_broken_from l.k x (database_read (codes_in a.codes.now) a.schema.now a.words.now))
     (ap (map dependency_of) (drop-more a.dependencies.now l.k c.loop-k-test.true))
 
 pub loop-k-init : goal.loop-k-init
-loop-k-init c = (refl, keyed-none (database_of c.args.schema.now c.args.words.now) 32, refl, refl)
+loop-k-init c = (refl, keyed-none (database_read (codes_in c.args.codes.now) c.args.schema.now c.args.words.now) 32, refl, refl)
 
 pub loop-k-preserved-then-has_key : goal.loop-k-preserved-then-has_key
 loop-k-preserved-then-has_key c =
     let i = (goal.at.loop-k-preserved-then-has_key c).In-loop-k in
     let l = i.loop-k in
     let a = i.args in
-    let D = database_of a.schema.now a.words.now in
+    let D = database_read (codes_in a.codes.now) a.schema.now a.words.now in
     let d = get_or a.dependencies.now l.k no_dependency in (
       onward i
           ∙ violation-later D (dependency_of d) (map dependency_of (drop (l.k + 1) a.dependencies.now)) l.k
@@ -65,7 +66,7 @@ returns-in-Found c =
     let a = i.args in
     let k = i.loop-k.k in
     sym (ap violation_of (onward i)
-    ∙ violation-found (database_of a.schema.now a.words.now) (dependency_of (get_or a.dependencies.now k no_dependency))
+    ∙ violation-found (database_read (codes_in a.codes.now) a.schema.now a.words.now) (dependency_of (get_or a.dependencies.now k no_dependency))
     (map dependency_of (drop (k + 1) a.dependencies.now)) k c.in-Found.first c.in-Found.second
     c.in-Found.ensures)
 
@@ -74,7 +75,7 @@ loop-k-preserved c =
     let i = (goal.at.loop-k-preserved c).In-loop-k in
     let l = i.loop-k in
     let a = i.args in
-    let D = database_of a.schema.now a.words.now in
+    let D = database_read (codes_in a.codes.now) a.schema.now a.words.now in
     let d = get_or a.dependencies.now l.k no_dependency in
     let size : length l.keys ≡ 32 = search rules in
     let room : l.k < length l.keys = omega (arith, c.requires.held_bound, c.loop-k-test.true) in
@@ -96,5 +97,7 @@ pub returns : goal.returns
 returns c =
     let l = c.loop-k in
     let a = c.args in
-    sym (ap violation_of (l.invariant.0 ∙ ap (λ (x : List database.Dependency). first_broken_from l.k x (database_of a.schema.now a.words.now))
-    (ap (map dependency_of) (drop_of_length-le a.dependencies.now {i = l.k} c.loop-k-test.false)) ∙ violation-end (database_of a.schema.now a.words.now) l.k))
+    sym (ap violation_of (l.invariant.0
+    ∙ ap (λ (x : List database.Dependency). first_broken_from l.k x (database_read (codes_in a.codes.now) a.schema.now a.words.now))
+    (ap (map dependency_of) (drop_of_length-le a.dependencies.now {i = l.k} c.loop-k-test.false))
+    ∙ violation-end (database_read (codes_in a.codes.now) a.schema.now a.words.now) l.k))

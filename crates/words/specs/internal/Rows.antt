@@ -3,7 +3,8 @@ use Rattle.std.specs.Prelude.{◌≡◌, Bool, true, List, ◌∷◌, ℕ, suc, 
 use Rattle.theory.specs.Query.{Row, constant, map_row}
 use Rattle.theory.specs.Database.{Dependency}
 use Rattle.theory.specs.Chase.{agree}
-use Rattle.words.specs.Words.{database_of, spells_rows}
+use Rattle.theory.specs.Codes.{CodePair, read_code}
+use Rattle.words.specs.Words.{database_of, database_read, spells_rows}
 use Rattle.words.specs.Testing.{numbered_from}
 
 -- The row of the given width that begins at a word
@@ -13,6 +14,13 @@ span_at width words at = record { relation = get_or words at 0; values = take wi
 -- The row that begins at a word
 abbrev pub row_at : List ℕ → List ℕ → ℕ → Row ℕ
 row_at schema words at = span_at (get_or schema (get_or words at 0) 0) words at
+
+-- The same rows as they are read: each old code as its current one
+abbrev pub span_read : List CodePair → ℕ → List ℕ → ℕ → Row ℕ
+span_read codes width words at = map_row (read_code codes) (span_at width words at)
+
+abbrev pub row_read : List CodePair → List ℕ → List ℕ → ℕ → Row ℕ
+row_read codes schema words at = map_row (read_code codes) (row_at schema words at)
 
 -- The row at `at` ends before `after`, and the rows go on there
 pub record Next (schema words : List ℕ) (at after : ℕ) : Type 0 where
@@ -26,6 +34,6 @@ pub record Next (schema words : List ℕ) (at after : ℕ) : Type 0 where
 abbrev pub agree_rows : Dependency → Row ℕ → Row ℕ → Bool
 agree_rows d r s = agree d.left (map_row constant r) (map_row constant s)
 
--- The rows of the words from `at` on with their positions, the first of them at position n
-abbrev pub rows_at : List ℕ → List ℕ → ℕ → ℕ → List (ℕ × Row ℕ)
-rows_at schema words at n = numbered_from n (database_of schema (drop at words))
+-- The rows of the words from `at` on as they are read, with their positions, the first of them at position n
+abbrev pub rows_read : List CodePair → List ℕ → List ℕ → ℕ → ℕ → List (ℕ × Row ℕ)
+rows_read codes schema words at n = numbered_from n (database_read codes schema (drop at words))

@@ -7,6 +7,7 @@ use native.Mathlib.Omega.{arith}
 use borrow.Author.Rules.{rules}
 use lib.ListN.{length, take, get_or}
 use Rattle.lists.proofs.Loops.{mapped-length}
+use Rattle.query.specs.Types.{Query}
 use Rattle.query.specs.View.{query_of}
 use Rattle.query.specs.Rule.{good_query, head_safe, no_place}
 use Rattle.theory.specs.Codes.{CodePair, read_query}
@@ -36,22 +37,20 @@ read_query-requires c =
     let r = c.args.self in
     ap₂ good_query c.schema.ensures.value c.stored.ensures ∙ (held r c.requires.1 c.args.place (search (mapped-length, rules)) c.requires.0 c.requires.2).0
 
-pub returns-clause-query : goal.returns-clause-query
-returns-clause-query c =
+pub returns : goal.returns
+returns c =
     let r = c.args.self in
-    ap (λ (schema : List ℕ). query_of schema c.read_query.result) (sym c.schema.ensures.value) ∙ c.read_query.ensures.query
-    ∙ ap₂ (λ (ps : List CodePair) (q : theory.Query). read_query ps q) c.codes.ensures (ap₂ query_of c.schema.ensures.value c.stored.ensures)
-
-pub returns-clause-good : goal.returns-clause-good
-returns-clause-good c =
-    let r = c.args.self in
-    ap (λ (schema : List ℕ). good_query schema c.read_query.result) (sym c.schema.ensures.value)
-    ∙ c.read_query.ensures.good
-    (ap (every (λ (p : CodePair). leb p.current 2147483647)) c.codes.ensures ∙ current-limit (take r.coded r.codes) (good-record r c.requires.1).codes)
-
-pub returns-clause-safe : goal.returns-clause-safe
-returns-clause-safe c =
-    let r = c.args.self in
-    ap (λ (schema : List ℕ). head_safe schema c.read_query.result) (sym c.schema.ensures.value)
-    ∙ c.read_query.ensures.safe
-    (ap₂ head_safe c.schema.ensures.value c.stored.ensures ∙ (held r c.requires.1 c.args.place (search (mapped-length, rules)) c.requires.0 c.requires.2).1)
+    let now = held r c.requires.1 c.args.place (search (mapped-length, rules)) c.requires.0 c.requires.2 in
+    record {
+      arity = c.read_query.ensures.arity ∙ ap (λ (q : Query). q.arity) c.stored.ensures;
+      query =
+          ap (λ (schema : List ℕ). query_of schema c.read_query.result) (sym c.schema.ensures.value) ∙ c.read_query.ensures.query
+          ∙ ap₂ (λ (ps : List CodePair) (q : theory.Query). read_query ps q) c.codes.ensures (ap₂ query_of c.schema.ensures.value c.stored.ensures);
+      good =
+          ap (λ (schema : List ℕ). good_query schema c.read_query.result) (sym c.schema.ensures.value)
+          ∙ c.read_query.ensures.good
+          (ap (every (λ (p : CodePair). leb p.current 2147483647)) c.codes.ensures ∙ current-limit (take r.coded r.codes) (good-record r c.requires.1).codes);
+      safe =
+          ap (λ (schema : List ℕ). head_safe schema c.read_query.result) (sym c.schema.ensures.value)
+          ∙ c.read_query.ensures.safe (ap₂ head_safe c.schema.ensures.value c.stored.ensures ∙ now.1);
+    }
