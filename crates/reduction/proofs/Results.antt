@@ -170,6 +170,7 @@ module _ (r : Record) (source target : ℕ) (able : Reducible r source target) w
           good = place_kept r target (place_with s.query) able.good (filled-place schema s.query told.good told.safe);
           reduces =
               subst₂ (λ (S T : theory.Query). ReducesTo codes schema (dependencies_of r) S T s.count (images_of s.images)) is.query (sym read) told.reduces;
+          as-stored = read ∙ ap (query_of schema) (sym held);
           no-mapping = λ empty. told.no-mapping (ap (λ (x : theory.Query). x.rows) (sym read) ∙ empty);
         }
 

@@ -3,12 +3,12 @@ use Rattle.std.specs.Prelude.{◌≡◌, ℕ, ◌≤◌, true, ◌≢◌, ◌↔
 use Rattle.std.proofs.Math.Option.{Option, none, some}
 use Rattle.record.specs.declared.Record.{Record}
 use Rattle.query.specs.declared.Cell.{Cell}
-use Rattle.query.specs.View.{images_of}
+use Rattle.query.specs.View.{query_of, images_of}
 use Rattle.record.specs.View.{schema_of, codes_of, dependencies_of}
 use Rattle.record.specs.Rule.{good_record}
 use Rattle.query.specs.Rule.{no_cell, place_with}
 use Rattle.refusals.specs.Refusals.{Condition, first_holding, Reply, refused, gives}
-use Rattle.record.specs.Calls.{broken_record, unknown_place, vacant, filled, with_place, query_at}
+use Rattle.record.specs.Calls.{broken_record, unknown_place, vacant, filled, with_place, stored_at, query_at}
 use Rattle.refusals.specs.Refusal.{reply_of}
 use Rattle.reduction.specs.declared.Reduced.{Reduced}
 use Rattle.theory.specs.Query as theory
@@ -49,7 +49,7 @@ pub record ReducesTo (codes : List CodePair) (schema : List ℕ) (ds : List data
   pub result : reduction.Reduction ds S T
   -- unless T is never, a mapping from S to T is returned
   pub mapping : T.rows ≢ [] → answers.IsMapping S T images
-  -- T has no old code, so it is read as it stands
+  -- T has no old code
   pub current : QueryWithoutOld codes T
   -- on every database that obeys the dependencies T has exactly the answers of S, so on those without old codes
   pub answers : (D : database.Database) → database.Obeys ds D → (t : List ℕ) → answers.Answer D S t ↔ answers.Answer D T t
@@ -68,6 +68,8 @@ pub record ShortFormStored (r : Record) (source target : ℕ) (o : Reduced) : Ty
   pub good : good_record o.«record» ≡ true
   -- the target place holds the short form of the source query as it is read
   pub reduces : ReducesTo (codes_of r) (schema_of r) (dependencies_of r) (query_at r source) (query_at o.«record» target) o.count (images_of o.images)
+  -- which is read as it is stored
+  pub as-stored : query_at o.«record» target ≡ query_of (schema_of r) (stored_at o.«record» target)
   -- a mapping that is absent is 0
   pub no-mapping : (query_at o.«record» target).rows ≡ [] → o.images ≡ replicate 96 no_cell
 
