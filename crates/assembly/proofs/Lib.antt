@@ -2,3 +2,4 @@
 pub mod FirstPlaces
 pub mod RecordParts
 pub mod Joins
+pub mod Codes

@@ -11,11 +11,11 @@ ghost use Rattle.limits.specs.internal.Schema.{widths_in};
 ghost use Rattle.record.specs.Rule.{good_record};
 ghost use Rattle.format.specs.Parts.{relations};
 ghost use Rattle.format.specs.File.{table_of, put_place, up_to_filled};
-ghost use Rattle.assembly.specs.internal.Pieces.{put_dependency, dependency_bytes, put_join, few_sets, joins_bytes, directory_bytes, part_bytes};
+ghost use Rattle.assembly.specs.internal.Pieces.{put_pair, codes_bytes, codes_long, put_dependency, dependency_bytes, put_join, few_sets, joins_bytes, directory_bytes, part_bytes};
 
-use encoder::{place_length, put_place, put_word};
+use encoder::{place_length, put_place, put_word, put_word32};
 use limits::schema::Schema;
-use query::{Dependency, JoinDependency, Place};
+use query::{CodePair, Dependency, JoinDependency, Place};
 use record::Record;
 
 // ---- lengths
@@ -41,6 +41,18 @@ pub fn places_length(places: &[Place], schema: Schema) -> usize
         sum += place_length(*place, schema);
     }
     sum
+}
+
+// How long the pairs of codes are: nothing where none is held, else their count and 8 bytes each.
+pub fn codes_length(coded: u8) -> usize
+    requires { coded ≤ 16 }
+    ensures { (result ≡ codes_long coded) × (result ≤ 129) }
+{
+    if coded == 0 {
+        0
+    } else {
+        1 + 8 * (coded as usize)
+    }
 }
 
 // How long a join dependency is.
@@ -77,6 +89,31 @@ fn put_relations(buffer: &mut [u8], at: usize, schema: Schema)
     let n = schema.relations as usize;
     buffer[at] = schema.relations;
     buffer[at + 1..at + 1 + n].copy_from_slice(&schema.widths[..n]);
+}
+
+// A pair of codes at a position: the old code and the current one, 32 bits each.
+fn put_pair(buffer: &mut [u8], at: usize, p: CodePair)
+    requires { at + 8 ≤ length buffer.old }
+    ensures { buffer.new ≡ over buffer.old at (put_pair p) }
+{
+    put_word32(buffer, at, p.old);
+    put_word32(buffer, at + 4, p.current);
+}
+
+// The pairs of codes at a position: nothing where none is held, else their count, then 8 bytes each. Answers where they end.
+fn put_codes(buffer: &mut [u8], at: usize, coded: u8, list: [CodePair; 16]) -> usize
+    requires coded_bound { coded ≤ 16 }
+    requires list_in_bounds { at + codes_long coded ≤ length buffer.old }
+    ensures { (buffer.new ≡ over buffer.old at (codes_bytes coded list)) × (result ≡ at + codes_long coded) }
+{
+    if coded == 0 {
+        return at;
+    }
+    buffer[at] = coded;
+    for (i, p) in list[..coded as usize].iter().enumerate() {
+        put_pair(buffer, at + 1 + 8 * i, *p);
+    }
+    at + 1 + 8 * (coded as usize)
 }
 
 // A functional dependency at a position: relation, left set and right column, a byte each.
@@ -169,7 +206,7 @@ pub fn put_directory(
     schema: Schema,
 )
     requires places_value { every (good_place (widths_in schema)) places.now ≡ true }
-    requires few { (length places.now ≤ 8) × (first ≤ 9) × (second ≤ 122) }
+    requires few { (length places.now ≤ 8) × (first ≤ 138) × (second ≤ 122) }
     requires in_bounds { 10 + 4 * length places.now ≤ length buffer.old }
     ensures { buffer.new ≡ over buffer.old 0 (directory_bytes (length places.now) first second (map (put_place (widths_in schema)) places.now)) }
 {
@@ -191,14 +228,16 @@ pub fn put_parts(buffer: &mut [u8], start: usize, given: Record, n: usize)
     ensures { buffer.new ≡ over buffer.old start (part_bytes given n) }
 {
     let schema = given.schema();
+    let coded = given.coded;
+    let codes = given.codes;
     let held = given.held;
     let list = given.dependencies;
     let joined = given.joined;
     let joins = given.joins;
-    let first = start + 1 + given.relations as usize;
-    let second = first + 1 + 3 * (held as usize);
     put_relations(buffer, start, schema);
+    let first = put_codes(buffer, start + 1 + given.relations as usize, coded, codes);
     put_dependencies(buffer, first, held, list);
+    let second = first + 1 + 3 * (held as usize);
     let third = put_joins(buffer, second, joined, joins);
     put_places(buffer, third, &given.places[..n], schema);
 }

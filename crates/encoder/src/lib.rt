@@ -27,13 +27,21 @@ pub fn put_word(buffer: &mut [u8], at: usize, n: usize)
     buffer[at..at + 2].copy_from_slice(&word.to_le_bytes());
 }
 
+// 32 bits at a position.
+pub fn put_word32(buffer: &mut [u8], at: usize, n: u32)
+    requires { at + 4 ≤ length buffer.old }
+    ensures { buffer.new ≡ over buffer.old at (bytes_of 4 n) }
+{
+    buffer[at..at + 4].copy_from_slice(&n.to_le_bytes());
+}
+
 // A byte and 32 bits at a position.
 fn put_tagged(buffer: &mut [u8], at: usize, tag: u8, n: u32)
     requires { at + 5 ≤ length buffer.old }
     ensures { buffer.new ≡ over buffer.old at (tag ∷ bytes_of 4 n) }
 {
     buffer[at] = tag;
-    buffer[at + 1..at + 5].copy_from_slice(&n.to_le_bytes());
+    put_word32(buffer, at + 1, n);
 }
 
 // An entry at a position.

@@ -17,6 +17,7 @@ use Rattle.query.specs.declared.JoinDependency.{JoinDependency}
 use Rattle.record.specs.declared.Record.{Record}
 use Rattle.lists.specs.Tests.{every}
 use Rattle.query.specs.contracts.Cell as cell
+use Rattle.query.specs.contracts.CodePair as pair
 use Rattle.query.specs.contracts.Dependency as dependency
 use Rattle.query.specs.contracts.JoinDependency as joined
 use Rattle.query.specs.contracts.ConjunctiveQuery as query
@@ -62,9 +63,10 @@ joins-shaped (x ∷ xs) (u ∷ us) p =
 pub record-shaped : (r : Record) (vs : List Val) → Is recorded.the_row r vs → shaped r ≡ true
 record-shaped r vs p =
     let widths = long u8 8 r.widths _ p.1.1.1.0 in
-    let dependencies = long dependency.the_row 32 r.dependencies _ p.1.1.1.1.1.0 in
-    let joins = long joined.the_row 4 r.joins _ p.1.1.1.1.1.1.1.0 in
-    let sets = joins-shaped r.joins _ p.1.1.1.1.1.1.1.0.1.1 in
-    let places = long place.the_row 8 r.places _ p.1.1.1.1.1.1.1.1.0 in
-    let queries = places-shaped r.places _ p.1.1.1.1.1.1.1.1.0.1.1 in
-    rw (widths, dependencies, joins, sets, places, queries)
+    let codes = long pair.the_row 16 r.codes _ p.1.1.1.1.1.0 in
+    let dependencies = long dependency.the_row 32 r.dependencies _ p.1.1.1.1.1.1.1.0 in
+    let joins = long joined.the_row 4 r.joins _ p.1.1.1.1.1.1.1.1.1.0 in
+    let sets = joins-shaped r.joins _ p.1.1.1.1.1.1.1.1.1.0.1.1 in
+    let places = long place.the_row 8 r.places _ p.1.1.1.1.1.1.1.1.1.1.0 in
+    let queries = places-shaped r.places _ p.1.1.1.1.1.1.1.1.1.1.0.1.1 in
+    rw (widths, codes, dependencies, joins, sets, places, queries)

@@ -32,10 +32,10 @@ ReadBack = (r : Record) (buffer : List ℕ) (n : ℕ) → shaped r ≡ true → 
 abbrev pub ReadGood : Type 0
 ReadGood = (bytes : List ℕ) (r : Record) → Bytes bytes → Reads bytes r → (good_record r ≡ true) × (shaped r ≡ true)
 
--- A written file has at most 4,445 bytes
+-- A written file has at most 4,574 bytes
 abbrev pub WrittenShort : Type 0
-WrittenShort = (r : Record) (buffer : List ℕ) (n : ℕ) → shaped r ≡ true → Writes r buffer n → n ≤ 4445
+WrittenShort = (r : Record) (buffer : List ℕ) (n : ℕ) → shaped r ≡ true → Writes r buffer n → n ≤ 4574
 
--- A record that keeps the rule is written into every buffer of 4,445 bytes
+-- A record that keeps the rule is written into every buffer of 4,574 bytes
 abbrev pub RoomEnough : Type 0
-RoomEnough = (r : Record) (buffer : List ℕ) → good_record r ≡ true → shaped r ≡ true → 4445 ≤ length buffer → (n : ℕ) × Writes r buffer n
+RoomEnough = (r : Record) (buffer : List ℕ) → good_record r ≡ true → shaped r ≡ true → 4574 ≤ length buffer → (n : ℕ) × Writes r buffer n

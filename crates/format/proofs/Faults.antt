@@ -10,19 +10,21 @@ use borrow.Author.Tests.{leb-true}
 use Rattle.query.specs.Types.{Query}
 use Rattle.query.specs.declared.Dependency.{Dependency}
 use Rattle.query.specs.declared.JoinDependency.{JoinDependency}
+use Rattle.query.specs.declared.CodePair.{CodePair}
 use Rattle.query.specs.Rule.{head_safe, no_query, no_place, place_with}
 use Rattle.query.specs.declared.Place.{Place}
-use Rattle.refusals.specs.Refusals.{bad_dependency, bad_directory, bad_join, bad_offsets, bad_query, bad_relations, unsafe_head, refusal_in}
+use Rattle.record.specs.declared.Record.{Record}
+use Rattle.refusals.specs.Refusals.{bad_code, bad_dependency, bad_directory, bad_join, bad_offsets, bad_query, bad_relations, unsafe_head, refusal_in}
 use Rattle.refusals.specs.Refusals.{Condition, first_holding, Reply, refused, gives, ◌>>=◌}
 use Rattle.lists.proofs.Tests.{and-iff}
 use Rattle.format.specs.Bytes.{number}
 use Rattle.format.specs.Format.{Reading, none, got}
-use Rattle.format.specs.Parts.{relations, dependencies, joins, query}
+use Rattle.format.specs.Parts.{relations, codes, dependencies, joins, query}
 use Rattle.format.specs.File.{chained, complete, directory, is_vacant, none_left, read_all, read_file, read_parts, read_place, read_places}
-use Rattle.format.specs.File.{front, no_joins, read_joins, record_with}
+use Rattle.format.specs.File.{front, no_codes, read_codes, no_joins, read_joins, record_with}
 use Rattle.format.specs.File.{safe_query, stretches, table_fits}
-use Rattle.format.specs.Faults.{is_whole, is_read, rest_of, are_joins, value_or, part_at, schema_in, relations_fault, dependencies_fault, joins_fault, query_fault}
-use Rattle.format.specs.Faults.{head_fault, place_conditions}
+use Rattle.format.specs.Faults.{is_whole, is_read, rest_of, are_codes, are_joins, value_or, part_at, schema_in, relations_fault, codes_fault, dependencies_fault}
+use Rattle.format.specs.Faults.{joins_fault, query_fault, head_fault, place_conditions}
 use Rattle.format.specs.Faults.{read_conditions}
 use Rattle.format.specs.Faults.{FirstFault, WholeWritten}
 use Rattle.format.proofs.Results.{complete-get, complete-put}
@@ -81,45 +83,64 @@ places-first schema (p ∷ ps) =
     (λ place. refusal-kept (read_places schema ps) (λ places. place ∷ places) ∙ places-first schema ps) schema (none_left ps) p
 
 module _ (part1 : List ℕ) (parts : List (List ℕ)) where
-  module _ (rs : ℕ × List ℕ) (schema : List ℕ) where
+  module _ (rs : ℕ × List ℕ) (cs : ℕ × List CodePair) (schema : List ℕ) where
     joins-whole : (ds : ℕ × List Dependency) (o : Reading (ℕ × List JoinDependency))
-        → refusal_in (complete bad_join o >>= (λ js. read_places schema parts >>= (λ places. gives (record_with rs ds js places))))
+        → refusal_in (complete bad_join o >>= (λ js. read_places schema parts >>= (λ places. gives (record_with rs cs ds js places))))
         ≡ first_holding ((not (is_whole o), bad_join) ∷ place_conditions schema parts)
     unfolding ◌>>=◌ first_holding complete is_whole
     joins-whole ds none = refl
-    joins-whole ds (got js []) = refusal-kept (read_places schema parts) (record_with rs ds js) ∙ places-first schema parts
+    joins-whole ds (got js []) = refusal-kept (read_places schema parts) (record_with rs cs ds js) ∙ places-first schema parts
     joins-whole ds (got js (b ∷ bytes)) = refl
 
     joins-first : (ds : ℕ × List Dependency) (bytes : List ℕ)
-        → refusal_in (read_joins schema bytes >>= (λ js. read_places schema parts >>= (λ places. gives (record_with rs ds js places))))
+        → refusal_in (read_joins schema bytes >>= (λ js. read_places schema parts >>= (λ places. gives (record_with rs cs ds js places))))
         ≡ first_holding ((not (are_joins schema bytes), bad_join) ∷ place_conditions schema parts)
     unfolding ◌>>=◌ first_holding read_joins are_joins
-    joins-first ds [] = refusal-kept (read_places schema parts) (record_with rs ds no_joins) ∙ places-first schema parts
+    joins-first ds [] = refusal-kept (read_places schema parts) (record_with rs cs ds no_joins) ∙ places-first schema parts
     joins-first ds (b ∷ bytes) = joins-whole ds ((joins schema).get (b ∷ bytes))
 
     dependencies-first : (o : Reading (ℕ × List Dependency))
         → refusal_in (front bad_dependency o >>=
-        (λ ds. read_joins schema ds.1 >>= (λ js. read_places schema parts >>= (λ places. gives (record_with rs ds.0 js places)))))
+        (λ ds. read_joins schema ds.1 >>= (λ js. read_places schema parts >>= (λ places. gives (record_with rs cs ds.0 js places)))))
         ≡ first_holding ((not (is_read o), bad_dependency) ∷ (not (are_joins schema (rest_of o)), bad_join) ∷ place_conditions schema parts)
     unfolding ◌>>=◌ first_holding front is_read rest_of
     dependencies-first none = refl
     dependencies-first (got ds rest) = joins-first ds rest
 
+  module _ (rs : ℕ × List ℕ) (schema : List ℕ) where
+    -- what is read after the pairs of codes, and its faults
+    abbrev after-codes : ℕ × List CodePair → Reply Record
+    after-codes cs =
+        front bad_dependency ((dependencies schema).get part1)
+        >>= (λ ds. read_joins schema ds.1 >>= (λ js. read_places schema parts >>= (λ places. gives (record_with rs cs ds.0 js places))))
+
+    abbrev others : List Condition
+    others = dependencies_fault schema part1 ∷ joins_fault schema part1 ∷ place_conditions schema parts
+
+    codes-whole : (o : Reading (ℕ × List CodePair))
+        → refusal_in (complete bad_code o >>= after-codes) ≡ first_holding ((not (is_whole o), bad_code) ∷ others)
+    unfolding ◌>>=◌ first_holding complete is_whole
+    codes-whole none = refl
+    codes-whole (got cs []) = dependencies-first rs cs schema ((dependencies schema).get part1)
+    codes-whole (got cs (b ∷ bytes)) = refl
+
+    codes-first : (bytes : List ℕ) → refusal_in (read_codes bytes >>= after-codes) ≡ first_holding ((not (are_codes bytes), bad_code) ∷ others)
+    unfolding ◌>>=◌ first_holding read_codes are_codes
+    codes-first [] = dependencies-first rs no_codes schema ((dependencies schema).get part1)
+    codes-first (b ∷ bytes) = codes-whole (codes.get (b ∷ bytes))
+
   relations-first : (o : Reading (ℕ × List ℕ))
-      → refusal_in (complete bad_relations o >>= (λ rs. front bad_dependency ((dependencies (take rs.0 rs.1)).get part1)
-      >>= (λ ds. read_joins (take rs.0 rs.1) ds.1
-      >>= (λ js. read_places (take rs.0 rs.1) parts >>= (λ places. gives (record_with rs ds.0 js places))))))
-      ≡ first_holding ((not (is_whole o), bad_relations) ∷ dependencies_fault (take (value_or (0, []) o).0 (value_or (0, []) o).1) part1
-      ∷ joins_fault (take (value_or (0, []) o).0 (value_or (0, []) o).1) part1
-      ∷ place_conditions (take (value_or (0, []) o).0 (value_or (0, []) o).1) parts)
-  unfolding ◌>>=◌ first_holding complete is_whole value_or
+      → refusal_in (front bad_relations o >>= (λ rs. read_codes rs.1 >>= after-codes rs.0 (take rs.0.0 rs.0.1)))
+      ≡ first_holding ((not (is_read o), bad_relations) ∷ (not (are_codes (rest_of o)), bad_code)
+      ∷ others (value_or (0, []) o) (take (value_or (0, []) o).0 (value_or (0, []) o).1))
+  unfolding ◌>>=◌ first_holding front is_read rest_of value_or
   relations-first none = refl
-  relations-first (got rs []) = dependencies-first rs (take rs.0 rs.1) ((dependencies (take rs.0 rs.1)).get part1)
-  relations-first (got rs (b ∷ bytes)) = refl
+  relations-first (got rs rest) = codes-first rs (take rs.0 rs.1) rest
 
 parts_first : (part0 part1 : List ℕ) (parts : List (List ℕ)) → refusal_in (read_all (part0 ∷ part1 ∷ parts))
     ≡ first_holding
-    (relations_fault part0 ∷ dependencies_fault (schema_in part0) part1 ∷ joins_fault (schema_in part0) part1 ∷ place_conditions (schema_in part0) parts)
+    (relations_fault part0 ∷ codes_fault part0 ∷ dependencies_fault (schema_in part0) part1 ∷ joins_fault (schema_in part0) part1
+    ∷ place_conditions (schema_in part0) parts)
 unfolding read_all read_parts
 parts_first part0 part1 parts = relations-first part1 parts (relations.get part0)
 
@@ -136,7 +157,7 @@ module _ (file : List ℕ) where
   -- the conditions of the parts
   abbrev conditions : List Condition
   conditions =
-      relations_fault (part_at file 0) ∷ dependencies_fault schema (part_at file 1) ∷ joins_fault schema (part_at file 1)
+      relations_fault (part_at file 0) ∷ codes_fault (part_at file 0) ∷ dependencies_fault schema (part_at file 1) ∷ joins_fault schema (part_at file 1)
       ∷ place_conditions schema (stretches (count - 2) file (drop 10 file))
 
   few : table_fits file ≡ true → 2 ≤ count

@@ -11,8 +11,8 @@ use borrow.Author.Tests.{eqb-true, eq-eqb}
 use Rattle.lists.specs.Tests.{every}
 use Rattle.format.specs.Bytes.{Bytes}
 use Rattle.lists.specs.Over.{pad}
-use Rattle.format.specs.Format.{Reading, none, got, then_read, map_reading, got_if, Format, Lawful, get_byte, byte, sequence, get_times, padded}
-use Rattle.format.specs.Format.{via}
+use Rattle.format.specs.Format.{Reading, none, got, then_read, map_reading, got_if, read_if, Format, Lawful, get_byte, byte, sequence, get_times, padded}
+use Rattle.format.specs.Format.{such_that, via}
 use Rattle.lists.proofs.Tests.{and_left, and_right, and_both, and-iff, every_drop, every-replicate, every-same}
 use Rattle.lists.proofs.Loops.{replicate-drop}
 use Rattle.format.proofs.Bytes.{bytes-append}
@@ -42,6 +42,12 @@ pub then_read-got : {A B : Type 0} (o : Reading A) (next : A → List ℕ → Re
 unfolding then_read
 then_read-got none next b rest e = absurd (not-got e)
 then_read-got (got a r) next b rest e = (a, r, refl, e)
+
+-- what a reading gives that is kept if its value passes a test
+read_if-got : {A : Type 0} (test : A → Bool) (o : Reading A) (a : A) (rest : List ℕ) → read_if test o ≡ got a rest → (o ≡ got a rest) × (test a ≡ true)
+unfolding read_if
+read_if-got test none a rest e = absurd (not-got e)
+read_if-got test (got b r) a rest e = let (t, same, left) = got_if-true (test b) b a r rest e in (rw (same, left), rw (← same) t)
 
 -- ---- a byte
 
@@ -174,4 +180,20 @@ module _ {A B : Type 0} (shaped : B → Bool) (hold : A → B) (release : B → 
             let k : (f.good a ≡ true) × (f.put a ++ rest ≡ bytes) = lf.put-get bytes a rest hb ea in
             subst (λ (b : B). ((shaped b && f.good (release b)) ≡ true) × (f.put (release b) ++ rest ≡ bytes)) ep
             (and_both _ _ (there a k.0).1 (rw (there a k.0).0 k.0), rw (there a k.0).0 k.1);
+      }
+
+-- ---- values that pass a further test
+
+module _ {A : Type 0} (test : A → Bool) (f : Format A) (lf : Lawful f) where
+  pub such_that-lawful : Lawful (such_that test f)
+  unfolding such_that read_if got_if
+  such_that-lawful =
+      record {
+        get-put = λ a rest h.
+            let k : (f.good a ≡ true) × (test a ≡ true) = simp and-iff at h in
+            rw (lf.get-put a rest k.0, k.1);
+        put-get = λ bytes a rest hb e.
+            let (read, passes) = read_if-got test (f.get bytes) a rest e in
+            let k : (f.good a ≡ true) × (f.put a ++ rest ≡ bytes) = lf.put-get bytes a rest hb read in
+            (and_both _ _ k.0 passes, k.1);
       }

@@ -14,11 +14,13 @@ use Rattle.query.specs.declared.Cell.{Cell}
 use Rattle.query.specs.Types.{Query}
 use Rattle.query.specs.declared.Dependency.{Dependency}
 use Rattle.query.specs.declared.JoinDependency.{JoinDependency}
+use Rattle.query.specs.declared.CodePair.{CodePair}
 use Rattle.query.specs.Rule.{shaped_join}
 use Rattle.lists.specs.Tests.{every}
 use Rattle.lists.proofs.Tests.{and_left, and_right, every_take}
-use Rattle.format.specs.Format.{byte, sequence, padded, via}
-use Rattle.format.specs.Parts.{relations, dependency, dependencies, join, joins, put_entry, entry, entries, row, rows, chunk, query_for}
+use Rattle.format.specs.Bytes.{bytes_of}
+use Rattle.format.specs.Format.{byte, sequence, padded, such_that, via}
+use Rattle.format.specs.Parts.{relations, code_pair, code_pairs, codes, dependency, dependencies, join, joins, put_entry, entry, entries, row, rows, chunk, query_for}
 use Rattle.format.proofs.Numbers.{length-bytes}
 use Rattle.format.proofs.Parts.{Narrow, narrow_at, head_fits}
 
@@ -49,10 +51,20 @@ length-row schema r =
     let e : length ((entries (get_or schema r.0 0)).put r.1) ≡ 5 * length (take (get_or schema r.0 0) r.1) =
     length-entries (get_or schema r.0 0) r.1 in omega arith
 
+pub length-pair : (p : CodePair) → length (code_pair.put p) ≡ 8
+unfolding code_pair
+length-pair p = omega (arith, length-append (bytes_of 4 p.old) (bytes_of 4 p.current), length-bytes 4 p.old, length-bytes 4 p.current)
+
 pub length-relations : (n : ℕ) (widths : List ℕ) → length (relations.put (n, widths)) ≡ 1 + length (take n widths)
 unfolding relations sequence byte padded
 length-relations n widths =
     let e : length (flat_map (λ b. b ∷ []) (take n widths)) ≡ 1 * length (take n widths) = length-flat_map (λ b. b ∷ []) 1 (λ b. refl) (take n widths) in
+    omega arith
+
+pub length-codes : (n : ℕ) (ps : List CodePair) → length (codes.put (n, ps)) ≡ 1 + 8 * length (take n ps)
+unfolding codes such_that code_pairs sequence byte padded code_pair
+length-codes n ps =
+    let e = length-flat_map code_pair.put 8 length-pair (take n ps) in
     omega arith
 
 pub length-dependencies : (schema : List ℕ) (n : ℕ) (ds : List Dependency) → length ((dependencies schema).put (n, ds)) ≡ 1 + 3 * length (take n ds)

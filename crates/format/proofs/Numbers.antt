@@ -37,3 +37,17 @@ bytes-number (suc k) (x ∷ bytes) b h =
     let m : (x + 256 * number k bytes) % 256 ≡ x = omega arith in
     let d : (x + 256 * number k bytes) / 256 ≡ number k bytes = omega arith in
     rw (m, d, ih)
+
+-- the number of k bytes is below that
+pub number-below : (k : ℕ) (bytes : List ℕ) → Bytes bytes → number k bytes < 256 ^ k
+unfolding number every
+number-below zero bytes b = lit< tt
+number-below (suc k) [] b =
+    let ih : number k [] < 256 ^ k = number-below k [] refl in
+    let p : 256 ^ suc k ≡ 256 * 256 ^ k = pow-succ' 256 k in
+    omega arith
+number-below (suc k) (x ∷ bytes) b =
+    let l : x < 256 = ltb-true x 256 (and_left (ltb x 256) (every (λ n. ltb n 256) bytes) b) in
+    let ih : number k bytes < 256 ^ k = number-below k bytes (and_right (ltb x 256) (every (λ n. ltb n 256) bytes) b) in
+    let p : 256 ^ suc k ≡ 256 * 256 ^ k = pow-succ' 256 k in
+    omega arith

@@ -1,34 +1,35 @@
 -- The two laws of each part of the file.
 use mathlib.Core.Path.{◌≡◌, refl, sym, ap, ◌∙◌, subst}
 use mathlib.Core.Bool.{Bool, true, false, cond, ◌&&◌}
-use mathlib.Core.List.{List, [], ◌∷◌, ◌++◌, map, flat_map}
-use Prim.Native.Nat.{ℕ, zero, suc, ◌+◌, ◌*◌, ◌≤◌}
+use mathlib.Core.List.{List, [], ◌∷◌, ◌++◌, append_assoc, map, flat_map}
+use Prim.Native.Nat.{ℕ, zero, suc, ◌+◌, ◌*◌, ◌^◌, ◌≤◌}
 use native.Mathlib.Nat.{not-suc-le-zero, le_of_suc-le-suc}
 use native.Mathlib.Omega.{arith}
 use lib.Dec.{eqb, leb, ltb, lit≤}
-use lib.ListN.{length, take, drop, get_or, replicate, length-append, take-append-drop}
-use lib.Seq.{take_at, drop_at, take_all, length-take-le}
-use borrow.Author.Tests.{eqb-true, eqb-false, eq-eqb, leb-true, le-leb}
+use lib.ListN.{length, take, drop, get_or, replicate, length-append, length-drop, take-append-drop}
+use lib.Seq.{take_at, drop_at, drop-drop, take-add, take_all, length-take-le}
+use borrow.Author.Tests.{eqb-true, eqb-false, eq-eqb, leb-true, le-leb, ltb-true, lt-ltb}
 use Rattle.query.specs.declared.Entry.{Entry}
 use Rattle.query.specs.declared.Entry.TheVariants.{Constant, Variable}
 use Rattle.query.specs.declared.Cell.{Cell}
 use Rattle.query.specs.Types.{Query}
 use Rattle.query.specs.declared.JoinDependency.{JoinDependency}
+use Rattle.query.specs.declared.CodePair.{CodePair}
 use Rattle.lists.specs.Tests.{between, every, is_zero}
 use Rattle.lists.specs.Over.{pad}
 use Rattle.query.specs.Rule.{blank_cell, blank_dependency, blank_join, good_dependency, good_join_set, good_join, good_entry, good_cell, no_cell, no_dependency, no_join}
-use Rattle.query.specs.Rule.{shaped_join}
+use Rattle.query.specs.Rule.{blank_pair, good_codes, no_pair, shaped_join}
 use Rattle.query.proofs.Good.{good-join}
 use Rattle.query.proofs.Shape.{blank-number, blank-cell, blank-dependency, blank-join}
 use Rattle.format.specs.Bytes.{number, bytes_of, Bytes}
 use Rattle.format.specs.Format.{got, got_if, Format, Lawful, byte, sequence, padded}
-use Rattle.format.specs.Parts.{relations, dependency_at, dependency, dependencies, put_entry, is_entry, entry_from, entry, entries, row, no_row, blank_row}
+use Rattle.format.specs.Parts.{relations, pair_at, code_pair, code_pairs, codes, dependency_at, dependency, dependencies, put_entry, is_entry, entry_from, entry, entries, row, no_row, blank_row}
 use Rattle.format.specs.Parts.{join_at, join, unused_join, joins, rows, chunk, flat, QueryFields, query_with, fields_of, full_cells, query_for}
-use Rattle.lists.proofs.Tests.{and_left, and_right, and_both, and-iff, every-join, every-weaken, every-same, used-blank}
+use Rattle.lists.proofs.Tests.{and_left, and_right, and_both, and-iff, every_drop, every-join, every-weaken, every-same, used-blank}
 use Rattle.lists.proofs.Loops.{stretch-length}
 use Rattle.lists.proofs.Over.{length-pad}
-use Rattle.format.proofs.Numbers.{number-bytes, bytes-number, length-bytes}
-use Rattle.format.proofs.Formats.{got_if-true, byte-lawful, sequence-lawful, pad-take, take-pad, padded-lawful, via-lawful}
+use Rattle.format.proofs.Numbers.{number-bytes, number-below, bytes-number, length-bytes}
+use Rattle.format.proofs.Formats.{got_if-true, byte-lawful, sequence-lawful, pad-take, take-pad, padded-lawful, such_that-lawful, via-lawful}
 
 -- ---- part 0 and part 1
 
@@ -39,6 +40,71 @@ relations-lawful =
     (λ n h.
     let k : (leb 1 n ≡ true) × (leb n 8 ≡ true) = simp and-iff at h in
     padded-lawful 8 0 is_zero n (byte (between 1 8)) blank-number refl (leb-true n 8 k.1) (byte-lawful (between 1 8)))
+
+-- a blank pair is the one of zeros
+pub blank-pair : (p : CodePair) → blank_pair p ≡ true → p ≡ no_pair
+blank-pair p e =
+    λ i.
+    record {
+      old = eqb-true p.old 0 (and_left (is_zero p.old) (is_zero p.current) e) i;
+      current = eqb-true p.current 0 (and_right (is_zero p.old) (is_zero p.current) e) i;
+    }
+
+-- the eight bytes of two numbers and the rest
+eight : (bytes : List ℕ) → Bytes bytes → 8 ≤ length bytes → (bytes_of 4 (number 4 bytes) ++ bytes_of 4 (number 4 (drop 4 bytes))) ++ drop 8 bytes ≡ bytes
+eight bytes b h =
+    let first : bytes_of 4 (number 4 bytes) ≡ take 4 bytes = bytes-number 4 bytes b (omega arith) in
+    let second : bytes_of 4 (number 4 (drop 4 bytes)) ≡ take 4 (drop 4 bytes) =
+    bytes-number 4 (drop 4 bytes) (every_drop (λ n. ltb n 256) 4 bytes b) (omega (arith, length-drop 4 bytes)) in
+    rw (first, second, ← take-add 4 4 bytes) (take-append-drop 8 bytes)
+
+pub code_pair-lawful : Lawful code_pair
+unfolding code_pair got_if
+code_pair-lawful =
+    record {
+      get-put = λ p rest h.
+          let k : (ltb p.old (2 ^ 32) ≡ true) × (ltb p.current (2 ^ 32) ≡ true) = simp and-iff at h in
+          let bytes : List ℕ = (bytes_of 4 p.old ++ bytes_of 4 p.current) ++ rest in
+          let same : bytes ≡ bytes_of 4 p.old ++ (bytes_of 4 p.current ++ rest) = append_assoc (bytes_of 4 p.old) (bytes_of 4 p.current) rest in
+          let long : leb 8 (length bytes) ≡ true =
+          le-leb 8 (length bytes)
+          (omega (
+            arith,
+            length-append (bytes_of 4 p.old ++ bytes_of 4 p.current) rest,
+            length-append (bytes_of 4 p.old) (bytes_of 4 p.current),
+            length-bytes 4 p.old,
+            length-bytes 4 p.current,
+          )) in
+          let after : drop 4 bytes ≡ bytes_of 4 p.current ++ rest =
+          ap (drop 4) same ∙ drop_at (bytes_of 4 p.old) (bytes_of 4 p.current ++ rest) 4 (length-bytes 4 p.old) in
+          let first : number 4 bytes ≡ p.old =
+          ap (number 4) same ∙ number-bytes 4 p.old (bytes_of 4 p.current ++ rest) (ltb-true p.old (2 ^ 32) k.0) in
+          let second : number 4 (drop 4 bytes) ≡ p.current =
+          ap (number 4) after ∙ number-bytes 4 p.current rest (ltb-true p.current (2 ^ 32) k.1) in
+          let left : drop 8 bytes ≡ rest =
+          sym (drop-drop 4 4 bytes) ∙ ap (drop 4) after ∙ drop_at (bytes_of 4 p.current) rest 4 (length-bytes 4 p.current) in
+          rw (long, first, second, left);
+      put-get = λ bytes p rest hb e.
+          let (t, ep, er) = got_if-true (leb 8 (length bytes)) (pair_at bytes) p (drop 8 bytes) rest e in
+          let long : 8 ≤ length bytes = leb-true 8 (length bytes) t in
+          rw (← ep, ← er) (
+            and_both _ _ (lt-ltb (number 4 bytes) (2 ^ 32) (number-below 4 bytes hb))
+                (lt-ltb (number 4 (drop 4 bytes)) (2 ^ 32) (number-below 4 (drop 4 bytes) (every_drop (λ n. ltb n 256) 4 bytes hb))),
+            eight bytes hb long,
+          );
+    }
+
+code_pairs-lawful : Lawful code_pairs
+unfolding code_pairs byte
+code_pairs-lawful =
+    sequence-lawful (byte (between 1 16)) (λ n. padded 16 no_pair blank_pair n code_pair) (byte-lawful (between 1 16))
+    (λ n h.
+    let k : (leb 1 n ≡ true) × (leb n 16 ≡ true) = simp and-iff at h in
+    padded-lawful 16 no_pair blank_pair n code_pair blank-pair refl (leb-true n 16 k.1) code_pair-lawful)
+
+pub codes-lawful : Lawful codes
+unfolding codes
+codes-lawful = such_that-lawful (λ c. good_codes c.0 c.1) code_pairs code_pairs-lawful
 
 -- three bytes off the front
 three : (bytes : List ℕ) → leb 3 (length bytes) ≡ true → (get_or bytes 0 0 ∷ get_or bytes 1 0 ∷ get_or bytes 2 0 ∷ drop 3 bytes) ≡ bytes

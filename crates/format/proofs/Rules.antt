@@ -1,24 +1,26 @@
 -- What a format calls good is what the record's rule calls good, for arrays of their types' lengths.
 use mathlib.Core.Path.{◌≡◌, refl, sym, ap, ◌∙◌}
-use mathlib.Core.Bool.{Bool, true, false, ◌&&◌}
+use mathlib.Core.Bool.{Bool, true, false, not, ◌&&◌}
 use mathlib.Core.List.{List, [], ◌∷◌}
-use Prim.Native.Nat.{ℕ, zero, suc, ◌+◌, ◌*◌, ◌≤◌}
+use Prim.Native.Nat.{ℕ, zero, suc, ◌+◌, ◌*◌, ◌^◌, ◌≤◌}
 use native.Mathlib.Omega.{arith}
 use lib.Dec.{eqb, leb}
 use lib.ListN.{length, take, drop, length-drop, take-append-drop, length-map}
 use lib.Seq.{length-take-le, drop-drop}
-use borrow.Author.Tests.{eqb-true, eq-eqb, leb-true, le-leb}
+use borrow.Author.Tests.{eqb-true, eq-eqb, leb-true, le-leb, lt-ltb}
 use Rattle.query.specs.declared.Cell.{Cell}
 use Rattle.query.specs.Types.{Query}
 use Rattle.query.specs.declared.Dependency.{Dependency}
 use Rattle.query.specs.declared.JoinDependency.{JoinDependency}
+use Rattle.query.specs.declared.CodePair.{CodePair}
 use Rattle.lists.specs.Tests.{between, every, is_zero}
 use Rattle.query.specs.Rule.{blank_cell, blank_dependency, good_dependency, good_row, good_rows, good_relations, good_dependencies, good_up_to, shaped_for}
-use Rattle.query.specs.Rule.{blank_join, good_join, good_joins, shaped_join}
-use Rattle.format.specs.Format.{byte, sequence, padded, via}
-use Rattle.format.specs.Parts.{relations, dependency, dependencies, entry, entries, row, blank_row, rows, chunk}
+use Rattle.query.specs.Rule.{good_pair, all_fit, blank_pair, good_codes, blank_join, good_join, good_joins, shaped_join}
+use Rattle.format.specs.Format.{byte, sequence, padded, such_that, via}
+use Rattle.format.specs.Parts.{relations, fits_words, code_pair, code_pairs, codes, dependency, dependencies, entry, entries, row, blank_row, rows, chunk}
 use Rattle.format.specs.Parts.{join, unused_join, joins, query_for}
 use Rattle.lists.proofs.Tests.{and_left, and_right, and_both, and-iff, every-append-is, every-weaken, every-both, every_take, every_drop, every-join}
+use Rattle.query.proofs.Pairs.{each-good}
 use Rattle.format.proofs.Parts.{Narrow, map-chunk}
 
 -- ---- relations and dependencies
@@ -44,6 +46,28 @@ good-narrow n widths h =
     let k : ((leb 1 n ≡ true) × (leb n 8 ≡ true)) × ((every (between 1 8) (take n widths) ≡ true) × (every is_zero (drop n widths) ≡ true)) =
     simp and-iff at h in
     every-weaken (between 1 8) (λ w. leb w 8) (λ w g. and_right (leb 1 w) (leb w 8) g) (take n widths) k.1.0
+
+-- two different codes have 32 bits
+fits-words : (p : CodePair) → good_pair p ≡ true → fits_words p ≡ true
+fits-words p h =
+    let codes = and_left (leb p.old 2147483647 && leb p.current 2147483647) (not (eqb p.old p.current)) h in
+    let old : p.old ≤ 2147483647 = leb-true p.old 2147483647 (and_left (leb p.old 2147483647) (leb p.current 2147483647) codes) in
+    let current : p.current ≤ 2147483647 = leb-true p.current 2147483647 (and_right (leb p.old 2147483647) (leb p.current 2147483647) codes) in
+    and_both _ _ (lt-ltb p.old (2 ^ 32) (omega arith)) (lt-ltb p.current (2 ^ 32) (omega arith))
+
+pub codes-good : (n : ℕ) (ps : List CodePair) → 1 ≤ n → length ps ≡ 16 → good_codes n ps ≡ true → codes.good (n, ps) ≡ true
+unfolding codes such_that code_pairs sequence byte padded code_pair good_codes
+codes-good n ps some l h =
+    let k : ((leb n 16 ≡ true) × (all_fit (take n ps) ≡ true)) × (every blank_pair (drop n ps) ≡ true) = simp and-iff at h in
+    let words : every fits_words (take n ps) ≡ true = every-weaken good_pair fits_words fits-words (take n ps) (each-good (take n ps) k.0.1) in
+    simp and-iff (((le-leb 1 n some, k.0.0), (eq-eqb (length ps) 16 l, (words, k.1))), k)
+
+pub good-codes : (p : ℕ × List CodePair) → codes.good p ≡ true → (1 ≤ p.0) × (length p.1 ≡ 16) × (good_codes p.0 p.1 ≡ true)
+unfolding codes such_that code_pairs sequence byte padded
+good-codes p h =
+    let k : (((leb 1 p.0 ≡ true) × (leb p.0 16 ≡ true)) × ((eqb (length p.1) 16 ≡ true)
+    × ((every code_pair.good (take p.0 p.1) ≡ true) × (every blank_pair (drop p.0 p.1) ≡ true)))) × (good_codes p.0 p.1 ≡ true) = simp and-iff at h in
+    (leb-true 1 p.0 k.0.0.0, eqb-true (length p.1) 16 k.0.1.0, k.1)
 
 pub dependencies-good : (schema : List ℕ) (n : ℕ) (ds : List Dependency) → length ds ≡ 32 → good_dependencies schema n ds ≡ true
     → (dependencies schema).good (n, ds) ≡ true

@@ -2,11 +2,11 @@
 -- order. That reading refuses with the first that holds is `FirstFault`, proved in `proofs/Faults`.
 use Rattle.std.specs.Prelude.{◌≡◌, ◌↔◌, Bool, true, false, cond, not, List, [], ◌∷◌, ℕ, ◌+◌, ◌-◌, ◌*◌, length, take, drop}
 use Rattle.query.specs.Rule.{head_safe, no_query}
-use Rattle.refusals.specs.Refusals.{bad_dependency, bad_directory, bad_join, bad_offsets, bad_query, bad_relations, unsafe_head}
+use Rattle.refusals.specs.Refusals.{bad_code, bad_dependency, bad_directory, bad_join, bad_offsets, bad_query, bad_relations, unsafe_head}
 use Rattle.refusals.specs.Refusals.{Condition, first_holding, refusal_in}
 use Rattle.format.specs.Bytes.{number, Bytes}
 use Rattle.format.specs.Format.{Reading, none, got, Format, Lawful}
-use Rattle.format.specs.Parts.{relations, dependencies, joins, query}
+use Rattle.format.specs.Parts.{relations, codes, dependencies, joins, query}
 use Rattle.format.specs.File.{chained, is_vacant, none_left, read_file, stretch, stretches, table_fits}
 
 -- ---- what a part holds
@@ -27,6 +27,11 @@ unfoldable pub rest_of : {A : Type 0} → Reading A → List ℕ
 rest_of none = []
 rest_of (got a rest) = rest
 
+-- Whether bytes are none, or the bytes of pairs of codes that keep the rule
+unfoldable pub are_codes : List ℕ → Bool
+are_codes [] = true
+are_codes (b ∷ bytes) = is_whole (codes.get (b ∷ bytes))
+
 -- Whether bytes are none, or the bytes of good join dependencies
 unfoldable pub are_joins : List ℕ → List ℕ → Bool
 are_joins schema [] = true
@@ -41,7 +46,7 @@ value_or blank (got a rest) = a
 abbrev pub part_at : List ℕ → ℕ → List ℕ
 part_at file k = stretch file (drop (2 + 4 * k) file)
 
--- The widths of the relations that part 0 holds
+-- The widths of the relations with which part 0 begins
 abbrev pub schema_in : List ℕ → List ℕ
 schema_in part = take (value_or (0, []) (relations.get part)).0 (value_or (0, []) (relations.get part)).1
 
@@ -55,9 +60,13 @@ table_fault file = (not (table_fits file), bad_directory)
 abbrev pub offset_fault : List ℕ → Condition
 offset_fault file = (not (chained (number 2 file) (2 + 4 * number 2 file) (length file) (drop 2 file)), bad_offsets)
 
--- 3: part 0 is not the bytes of good relations
+-- 3: part 0 does not begin with the bytes of good relations
 abbrev pub relations_fault : List ℕ → Condition
-relations_fault part = (not (is_whole (relations.get part)), bad_relations)
+relations_fault part = (not (is_read (relations.get part)), bad_relations)
+
+-- 18: bytes are left of it that are not those of pairs of codes that keep the rule
+abbrev pub codes_fault : List ℕ → Condition
+codes_fault part = (not (are_codes (rest_of (relations.get part))), bad_code)
 
 -- 4: part 1 does not begin with the bytes of good functional dependencies
 abbrev pub dependencies_fault : List ℕ → List ℕ → Condition
@@ -80,10 +89,11 @@ unfoldable pub place_conditions : List ℕ → List (List ℕ) → List Conditio
 place_conditions schema [] = []
 place_conditions schema (p ∷ ps) = query_fault schema (none_left ps) p ∷ head_fault schema p ∷ place_conditions schema ps
 
--- What reading asks: 1; 2; 3 of part 0; 4 and 15 of part 1; then 5 and 6 of each query part
+-- What reading asks: 1; 2; 3 and 18 of part 0; 4 and 15 of part 1; then 5 and 6 of each query part
 unfoldable pub read_conditions : List ℕ → List Condition
 read_conditions file =
-    table_fault file ∷ offset_fault file ∷ relations_fault (part_at file 0) ∷ dependencies_fault (schema_in (part_at file 0)) (part_at file 1)
+    table_fault file ∷ offset_fault file ∷ relations_fault (part_at file 0) ∷ codes_fault (part_at file 0)
+    ∷ dependencies_fault (schema_in (part_at file 0)) (part_at file 1)
     ∷ joins_fault (schema_in (part_at file 0)) (part_at file 1) ∷ place_conditions (schema_in (part_at file 0)) (stretches (number 2 file - 2) file (drop 10 file))
 
 -- ---- what is proved of them

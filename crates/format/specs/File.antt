@@ -1,20 +1,21 @@
--- The file: the directory of its parts, the reader with its refusals, and the bytes of a record (SPECIFICATION, The file and Refusals, 1 to 6 and 15).
+-- The file: the directory of its parts, the reader with its refusals, and the bytes of a record (SPECIFICATION, The file and Refusals, 1 to 6, 15 and 18).
 use Rattle.std.specs.Prelude.{Bool, true, false, cond, ◌&&◌, ℕ, zero, suc, ◌+◌, ◌*◌, eqb, leb, length, take, drop, replicate}
 use mathlib.Core.List.{List, [], ◌∷◌, ◌++◌, map, flatten}
 use Rattle.query.specs.Types.{Query}
 use Rattle.query.specs.declared.Dependency.{Dependency}
 use Rattle.query.specs.declared.JoinDependency.{JoinDependency}
+use Rattle.query.specs.declared.CodePair.{CodePair}
 use Rattle.query.specs.declared.Place.{Place}
 use Rattle.record.specs.declared.Record.{Record}
 use Rattle.record.specs.View.{schema_of}
 use Rattle.lists.specs.Tests.{between, every}
 use Rattle.lists.specs.Over.{pad}
-use Rattle.query.specs.Rule.{head_safe, shaped_query, shaped_join, no_join, no_place, place_with}
+use Rattle.query.specs.Rule.{head_safe, shaped_query, shaped_join, no_pair, no_join, no_place, place_with}
 use Rattle.record_calls.specs.Calls.{blank_record}
-use Rattle.refusals.specs.Refusals.{bad_dependency, bad_directory, bad_join, bad_offsets, bad_query, bad_relations, unsafe_head, Reply, refused, gives, ◌>>=◌}
+use Rattle.refusals.specs.Refusals.{bad_code, bad_dependency, bad_directory, bad_join, bad_offsets, bad_query, bad_relations, unsafe_head, Reply, refused, gives, ◌>>=◌}
 use Rattle.format.specs.Bytes.{number, bytes_of}
 use Rattle.format.specs.Format.{Reading, none, got}
-use Rattle.format.specs.Parts.{relations, dependencies, joins, query}
+use Rattle.format.specs.Parts.{relations, codes, dependencies, joins, query}
 
 -- ---- the first fault decides
 
@@ -69,6 +70,15 @@ assemble parts = bytes_of 2 (length parts) ++ table_of (2 + 4 * length parts) pa
 
 -- ---- reading
 
+-- No pairs of codes, in an array of 16
+abbrev pub no_codes : ℕ × List CodePair
+no_codes = (0, replicate 16 no_pair)
+
+-- What part 0 holds after the widths: nothing where no pair of codes is held. Refused: 18, any bytes that are not theirs
+unfoldable pub read_codes : List ℕ → Reply (ℕ × List CodePair)
+read_codes [] = gives no_codes
+read_codes (b ∷ bytes) = complete bad_code (codes.get (b ∷ bytes))
+
 -- No join dependencies, in an array of 4
 abbrev pub no_joins : ℕ × List JoinDependency
 no_joins = (0, replicate 4 no_join)
@@ -106,12 +116,14 @@ read_places schema (p ∷ ps) = do
   places ← read_places schema ps
   gives (place ∷ places)
 
--- The record of the given relations, functional and join dependencies and first places
-abbrev pub record_with : ℕ × List ℕ → ℕ × List Dependency → ℕ × List JoinDependency → List Place → Record
-record_with rs ds js places =
+-- The record of the given relations, pairs of codes, functional and join dependencies and first places
+abbrev pub record_with : ℕ × List ℕ → ℕ × List CodePair → ℕ × List Dependency → ℕ × List JoinDependency → List Place → Record
+record_with rs cs ds js places =
     record {
       relations = rs.0;
       widths = rs.1;
+      coded = cs.0;
+      codes = cs.1;
       held = ds.0;
       dependencies = ds.1;
       joined = js.0;
@@ -119,14 +131,15 @@ record_with rs ds js places =
       places = pad 8 no_place places;
     }
 
--- The parts in file order. Refused: 3, relations; 4, functional dependencies; 15, join dependencies; 5 and 6, query parts
+-- The parts in file order. Refused: 3, relations; 18, pairs of codes; 4, functional dependencies; 15, join dependencies; 5 and 6, query parts
 unfoldable pub read_parts : List ℕ → List ℕ → List (List ℕ) → Reply Record
 read_parts part0 part1 parts = do
-  rs ← complete bad_relations (relations.get part0)
-  ds ← front bad_dependency ((dependencies (take rs.0 rs.1)).get part1)
-  js ← read_joins (take rs.0 rs.1) ds.1
-  places ← read_places (take rs.0 rs.1) parts
-  gives (record_with rs ds.0 js places)
+  rs ← front bad_relations (relations.get part0)
+  cs ← read_codes rs.1
+  ds ← front bad_dependency ((dependencies (take rs.0.0 rs.0.1)).get part1)
+  js ← read_joins (take rs.0.0 rs.0.1) ds.1
+  places ← read_places (take rs.0.0 rs.0.1) parts
+  gives (record_with rs.0 cs ds.0 js places)
 
 -- All parts. The directory gives at least two
 unfoldable pub read_all : List (List ℕ) → Reply Record
@@ -144,6 +157,10 @@ read_outcome (gives r) = (gives tt, r)
 read_outcome (refused n) = (refused n, blank_record)
 
 -- ---- writing
+
+-- The bytes of pairs of codes, none where none is held
+unfoldable pub put_codes : ℕ × List CodePair → List ℕ
+put_codes cs = cond (eqb cs.0 0) [] (codes.put cs)
 
 -- The bytes of join dependencies, none where none is held
 unfoldable pub put_joins : List ℕ → ℕ × List JoinDependency → List ℕ
@@ -166,7 +183,7 @@ up_to_filled (p ∷ ps) = cond p.filled (suc (up_to_filled ps)) (one_more_if_any
 -- The parts of a record's file
 unfoldable pub parts_of : Record → List (List ℕ)
 parts_of r =
-    relations.put (r.relations, r.widths)
+    (relations.put (r.relations, r.widths) ++ put_codes (r.coded, r.codes))
     ∷ ((dependencies (schema_of r)).put (r.held, r.dependencies) ++ put_joins (schema_of r) (r.joined, r.joins))
     ∷ map (put_place (schema_of r)) (take (up_to_filled r.places) r.places)
 
@@ -176,8 +193,8 @@ file_of r = assemble (parts_of r)
 
 -- ---- the lengths of the record's arrays, which its types give
 
--- A record has 8 widths, 32 functional dependencies, 4 join dependencies of 4 sets each, and 8 places, each with the arrays of a query
+-- A record has 8 widths, 16 pairs of codes, 32 functional dependencies, 4 join dependencies of 4 sets each, and 8 places, each with the arrays of a query
 abbrev pub shaped : Record → Bool
 shaped r =
-    eqb (length r.widths) 8 && eqb (length r.dependencies) 32 && eqb (length r.joins) 4 && every shaped_join r.joins
+    eqb (length r.widths) 8 && eqb (length r.codes) 16 && eqb (length r.dependencies) 32 && eqb (length r.joins) 4 && every shaped_join r.joins
     && eqb (length r.places) 8 && every (λ p. shaped_query p.query) r.places

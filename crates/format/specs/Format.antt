@@ -26,6 +26,11 @@ unfoldable pub got_if : {A : Type 0} → Bool → A → List ℕ → Reading A
 got_if true a rest = got a rest
 got_if false a rest = none
 
+-- The same reading, if its value passes a test
+unfoldable pub read_if : {A : Type 0} → (A → Bool) → Reading A → Reading A
+read_if test none = none
+read_if test (got a rest) = got_if (test a) a rest
+
 -- A format: the good values, their bytes, and a reader
 pub record Format (A : Type 0) : Type 0 where
   pub good : A → Bool
@@ -77,3 +82,7 @@ via shaped hold release f =
       put = λ b. f.put (release b);
       get = λ bytes. map_reading hold (f.get bytes);
     }
+
+-- The values of a format that pass a further test
+unfoldable pub such_that : {A : Type 0} → (A → Bool) → Format A → Format A
+such_that test f = record { good = λ a. f.good a && test a; put = f.put; get = λ bytes. read_if test (f.get bytes) }

@@ -3,17 +3,22 @@
 use Rattle.std.specs.Prelude.{◌≡◌, ◌↔◌, true, List, ℕ, ◌+◌, ◌*◌, ◌≤◌, length, take}
 use Rattle.query.specs.declared.Dependency.{Dependency}
 use Rattle.query.specs.declared.JoinDependency.{JoinDependency}
+use Rattle.query.specs.declared.CodePair.{CodePair}
 use Rattle.query.specs.Types.{Query}
-use Rattle.query.specs.Rule.{good_relations, good_dependencies, good_joins, good_up_to, shaped_for, shaped_join}
+use Rattle.query.specs.Rule.{good_relations, good_codes, good_dependencies, good_joins, good_up_to, shaped_for, shaped_join}
 use Rattle.lists.specs.Tests.{every}
 use Rattle.format.specs.Format.{Lawful}
-use Rattle.format.specs.Parts.{relations, dependencies, joins, query_for}
+use Rattle.format.specs.Parts.{relations, codes, dependencies, joins, query_for}
 
 -- ---- the laws
 
 -- Relations that are written are read back, and what is read was good and is written as the same bytes
 abbrev pub RelationsLawful : Type 0
 RelationsLawful = Lawful relations
+
+-- So with pairs of codes
+abbrev pub CodesLawful : Type 0
+CodesLawful = Lawful codes
 
 -- So with functional dependencies
 abbrev pub DependenciesLawful : Type 0
@@ -32,6 +37,11 @@ QueriesLawful = (most n : ℕ) (widths : List ℕ) → good_relations n widths �
 -- Relations that the format calls good are those of the rule
 abbrev pub RelationsRule : Type 0
 RelationsRule = (n : ℕ) (widths : List ℕ) → (relations.good (n, widths) ≡ true) ↔ ((length widths ≡ 8) × (good_relations n widths ≡ true))
+
+-- So with pairs of codes, where one is held
+abbrev pub CodesRule : Type 0
+CodesRule =
+    (n : ℕ) (ps : List CodePair) → (codes.good (n, ps) ≡ true) ↔ ((1 ≤ n) × (length ps ≡ 16) × (good_codes n ps ≡ true))
 
 -- So with functional dependencies
 abbrev pub DependenciesRule : Type 0

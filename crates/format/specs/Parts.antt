@@ -1,24 +1,51 @@
--- The parts of the file as formats: relations, dependencies of both kinds and queries, as SPECIFICATION, The file, lists them.
+-- The parts of the file as formats: relations, pairs of codes, dependencies of both kinds and queries, as SPECIFICATION, The file, lists them.
 -- Arrays are those of the record: the elements in use are written, those after them are blank.
-use Rattle.std.specs.Prelude.{Bool, cond, ◌&&◌, ℕ, ◌+◌, ◌*◌, eqb, ltb, leb, length, get_or, take, drop, replicate}
-use mathlib.Core.List.{List, [], ◌∷◌, map, flat_map}
+use Rattle.std.specs.Prelude.{Bool, cond, ◌&&◌, ℕ, ◌+◌, ◌*◌, ◌^◌, eqb, ltb, leb, length, get_or, take, drop, replicate}
+use mathlib.Core.List.{List, [], ◌∷◌, ◌++◌, map, flat_map}
 use Rattle.query.specs.declared.Entry.{Entry}
 use Rattle.query.specs.declared.Entry.TheVariants.{Constant, Variable}
 use Rattle.query.specs.declared.Cell.{Cell}
 use Rattle.query.specs.Types.{Query}
 use Rattle.query.specs.declared.Dependency.{Dependency}
 use Rattle.query.specs.declared.JoinDependency.{JoinDependency}
+use Rattle.query.specs.declared.CodePair.{CodePair}
 use Rattle.lists.specs.Tests.{between, every, is_zero}
 use Rattle.lists.specs.Over.{pad}
 use Rattle.query.specs.Rule.{blank_cell, blank_dependency, blank_join, good_dependency, good_join, good_cell, no_cell, no_dependency, no_join, shaped_join}
+use Rattle.query.specs.Rule.{blank_pair, good_codes, no_pair}
 use Rattle.format.specs.Bytes.{number, bytes_of}
-use Rattle.format.specs.Format.{got_if, Format, byte, sequence, padded, via}
+use Rattle.format.specs.Format.{got_if, Format, byte, sequence, padded, such_that, via}
 
 -- ---- part 0 and part 1
 
--- Part 0: the count of relations, then a width byte each
+-- Part 0 begins with the count of relations, then a width byte each
 unfoldable pub relations : Format (ℕ × List ℕ)
 relations = sequence (byte (between 1 8)) (λ n. padded 8 0 is_zero n (byte (between 1 8)))
+
+-- The pair of codes that eight bytes stand for
+abbrev pub pair_at : List ℕ → CodePair
+pair_at bytes = record { old = number 4 bytes; current = number 4 (drop 4 bytes) }
+
+-- Two numbers of 32 bits
+abbrev pub fits_words : CodePair → Bool
+fits_words p = ltb p.old (2 ^ 32) && ltb p.current (2 ^ 32)
+
+-- A pair of codes: the old code and the current one, 32 bits each
+unfoldable pub code_pair : Format CodePair
+code_pair =
+    record {
+      good = fits_words;
+      put = λ p. bytes_of 4 p.old ++ bytes_of 4 p.current;
+      get = λ bytes. got_if (leb 8 (length bytes)) (pair_at bytes) (drop 8 bytes);
+    }
+
+-- The count of pairs of codes, then 8 bytes each
+unfoldable pub code_pairs : Format (ℕ × List CodePair)
+code_pairs = sequence (byte (between 1 16)) (λ n. padded 16 no_pair blank_pair n code_pair)
+
+-- Part 0 goes on where pairs of codes are held: these pairs, which together keep the rule
+unfoldable pub codes : Format (ℕ × List CodePair)
+codes = such_that (λ c. good_codes c.0 c.1) code_pairs
 
 -- The dependency that three bytes stand for
 abbrev pub dependency_at : List ℕ → Dependency

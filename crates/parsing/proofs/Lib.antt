@@ -5,6 +5,7 @@ pub mod Positions
 pub mod Counted
 pub mod Times
 pub mod Relations
+pub mod Codes
 pub mod RowLaws
 pub mod ReadingRows
 pub mod QueryLaws

@@ -1,4 +1,5 @@
-// What the parts of a file hold, read off bytes: numbers, then the query of a query part, the relations of part 0 and the dependencies of both kinds of part 1.
+// What the parts of a file hold, read off bytes: numbers, then the query of a query part, the relations and the pairs of codes of part 0, and the dependencies
+// of both kinds of part 1.
 // A reader of what may be followed by more hands back the value and the bytes after it. Each answers none where the bytes are no good value.
 #![tactic(auto)]
 
@@ -6,16 +7,16 @@ ghost use Rattle.std.specs.Prelude.{◌≡◌, true, ◌+◌, ◌≤◌, ◌<◌
 ghost use Rattle.lists.specs.Tests.{between};
 ghost use Rattle.lists.specs.Over.{pad};
 ghost use Rattle.limits.specs.internal.Schema.{widths_in};
-ghost use Rattle.refusals.specs.Refusals.{bad_relations};
 ghost use Rattle.format.specs.Bytes.{number};
 ghost use Rattle.format.specs.Format.{get_byte, get_times, map_reading};
-ghost use Rattle.format.specs.Parts.{entry, rows, query, relations, dependency, dependencies, join};
-ghost use Rattle.format.specs.File.{complete, read_joins};
-ghost use Rattle.parsing.specs.internal.Read.{value_given, reading_of, read_into, relations_in, stored_rows};
+ghost use Rattle.format.specs.Parts.{entry, rows, query, relations, code_pair, code_pairs, dependency, dependencies, join};
+ghost use Rattle.format.specs.File.{read_codes, read_joins};
+ghost use Rattle.parsing.specs.internal.Read.{value_given, reading_of, read_into, relations_read, stored_rows};
 
 use limits::schema::Schema;
 use query::{
-    Cell, Dependency, Entry, JoinDependency, NO_CELL, NO_DEPENDENCY, NO_JOIN_DEPENDENCY, Query,
+    Cell, CodePair, Dependency, Entry, JoinDependency, NO_CELL, NO_CODE_PAIR, NO_DEPENDENCY,
+    NO_JOIN_DEPENDENCY, Query,
 };
 
 // ---- numbers and bytes
@@ -145,15 +146,64 @@ pub fn read_query(part: &[u8], schema: Schema) -> Option<(Query, &[u8])>
 
 // ---- part 0: relations
 
-// Part 0: the count of relations, then a width byte each, and no more.
-pub fn read_relations(part: &[u8]) -> Option<Schema>
-    ensures { relations_in result ≡ value_given (complete bad_relations (relations.get part.now)) }
+// The front of part 0: the count of relations, then a width byte each.
+pub fn read_relations(part: &[u8]) -> Option<(Schema, &[u8])>
+    ensures { relations_read result ≡ relations.get part.now }
 {
-    let (count, widths) = part.split_first()?;
-    if 8 < widths.len() || widths.len() != usize::from(*count) {
+    let (count, front) = read_byte(part, 1, 8)?;
+    let n = count as usize;
+    if front.len() < n {
         return None;
     }
-    Schema::new(*count, chains::padded(widths, 0))
+    let schema = Schema::new(count, chains::padded(&front[..n], 0))?;
+    Some((schema, &front[n..]))
+}
+
+// ---- part 0: pairs of codes
+
+// A pair of codes: the old code and the current one, 32 bits each.
+fn read_pair(s: &[u8]) -> Option<(CodePair, &[u8])>
+    ensures { reading_of result ≡ code_pair.get s.now }
+{
+    if s.len() < 8 {
+        return None;
+    }
+    let p = CodePair {
+        old: word32(s, 0),
+        current: word32(s, 4),
+    };
+    Some((p, &s[8..]))
+}
+
+// The count of pairs of codes, then each of them.
+fn read_pairs(part: &[u8]) -> Option<((u8, [CodePair; 16]), &[u8])>
+    ensures { reading_of result ≡ code_pairs.get part.now }
+{
+    let (coded, front) = read_byte(part, 1, 16)?;
+    let mut codes = [NO_CODE_PAIR; 16];
+    let mut rest = front;
+    let n = coded as usize;
+    for slot in codes[..n].iter_mut() {
+        let (p, after) = read_pair(rest)?;
+        *slot = p;
+        rest = after;
+    }
+    Some(((coded, codes), rest))
+}
+
+// What is left of part 0 after the widths: nothing, or the pairs of codes, which keep the rule, and no more.
+pub fn read_codes(part: &[u8]) -> Option<(u8, [CodePair; 16])>
+    ensures { result ≡ value_given (read_codes part.now) }
+{
+    if part.is_empty() {
+        return Some((0, [NO_CODE_PAIR; 16]));
+    }
+    let ((coded, codes), rest) = read_pairs(part)?;
+    if rest.is_empty() && limits::codes_good(coded, codes) {
+        Some((coded, codes))
+    } else {
+        None
+    }
 }
 
 // ---- part 1: functional dependencies

@@ -7,7 +7,7 @@ ghost use Rattle.record.specs.Calls.{outcome_reply};
 ghost use Rattle.refusals.specs.Refusal.{reply_of};
 ghost use Rattle.reader.specs.internal.Read.{directory_read};
 
-use parsing::{read_dependencies, read_joins, read_relations, word16};
+use parsing::{read_codes, read_dependencies, read_joins, read_relations, word16};
 use places::{part, read_places};
 use record::calls::{done, refused};
 use record::{Outcome, Record};
@@ -59,13 +59,14 @@ fn read_directory(file: &[u8]) -> Result<usize, Refusal>
 
 // ---- all parts
 
-// The parts in file order: relations, dependencies of both kinds, then places.
+// The parts in file order: relations, pairs of codes, dependencies of both kinds, then places.
 fn read_parts(file: &[u8], n: usize) -> Result<Record, Refusal>
     requires le_n { (2 ≤ n) × (n ≤ 10) × (2 + 4 * n ≤ length file.now) }
     requires file_value { chained n (2 + 4 * n) (length file.now) (drop 2 file.now) ≡ true }
     ensures { reply_of result ≡ read_all (stretches n file.now (drop 2 file.now)) }
 {
-    let schema = read_relations(part(file, 0)).ok_or(Refusal::BadRelations)?;
+    let (schema, more) = read_relations(part(file, 0)).ok_or(Refusal::BadRelations)?;
+    let (coded, codes) = read_codes(more).ok_or(Refusal::BadCode)?;
     let functional = read_dependencies(part(file, 1), schema).ok_or(Refusal::BadDependency)?;
     let ((held, dependencies), rest) = functional;
     let (joined, joins) = read_joins(rest, schema).ok_or(Refusal::BadJoin)?;
@@ -74,6 +75,8 @@ fn read_parts(file: &[u8], n: usize) -> Result<Record, Refusal>
     Ok(Record {
         relations: schema.relations,
         widths,
+        coded,
+        codes,
         held,
         dependencies,
         joined,

@@ -6,7 +6,7 @@ ghost use Rattle.record.specs.Rule.{good_record};
 ghost use Rattle.refusals.specs.Refusal.{reply_of};
 ghost use Rattle.writer.specs.Write.{written, after_writing};
 
-use assembly::{joins_length, places_length, put_directory, put_parts, up_to_filled};
+use assembly::{codes_length, joins_length, places_length, put_directory, put_parts, up_to_filled};
 use record::Record;
 use refusals::Refusal;
 
@@ -21,7 +21,7 @@ pub fn write_good(given: Record, buffer: &mut [u8]) -> Result<usize, Refusal>
     let joins = given.joins;
     let n = up_to_filled(given.places);
     let places = &given.places[..n];
-    let first = 1 + given.relations as usize;
+    let first = 1 + given.relations as usize + codes_length(given.coded);
     let second = 1 + 3 * (held as usize) + joins_length(joined, joins);
     let others = places_length(places, schema);
     let size = 2 + 4 * (n + 2) + first + second + others;

@@ -1,6 +1,7 @@
 -- The bytes that the functions write, piece by piece.
 use Rattle.std.specs.Prelude.{Bool, cond, ℕ, ◌+◌, ◌*◌, eqb, leb, take}
 use mathlib.Core.List.{List, [], ◌∷◌, ◌++◌, map, flat_map, flatten}
+use Rattle.query.specs.declared.CodePair.{CodePair}
 use Rattle.query.specs.declared.Dependency.{Dependency}
 use Rattle.query.specs.declared.JoinDependency.{JoinDependency}
 use Rattle.record.specs.declared.Record.{Record}
@@ -8,6 +9,18 @@ use Rattle.record.specs.View.{schema_of}
 use Rattle.format.specs.Bytes.{bytes_of}
 use Rattle.format.specs.Parts.{relations}
 use Rattle.format.specs.File.{table_of, put_place}
+
+-- The bytes of a pair of codes
+abbrev pub put_pair : CodePair → List ℕ
+put_pair p = bytes_of 4 p.old ++ bytes_of 4 p.current
+
+-- The bytes of part 0 after the widths: none where no pair of codes is held, else their count, then 8 bytes each
+abbrev pub codes_bytes : ℕ → List CodePair → List ℕ
+codes_bytes coded list = cond (eqb coded 0) [] (coded ∷ flat_map put_pair (take coded list))
+
+-- How many bytes these are
+abbrev pub codes_long : ℕ → ℕ
+codes_long coded = cond (eqb coded 0) 0 (1 + 8 * coded)
 
 -- The bytes of a functional dependency
 abbrev pub put_dependency : Dependency → List ℕ
@@ -38,5 +51,5 @@ directory_bytes n first second parts =
 -- The parts of a record, n of them query parts, one after the other
 abbrev pub part_bytes : Record → ℕ → List ℕ
 part_bytes r n =
-    relations.put (r.relations, r.widths) ++ dependency_bytes r.held r.dependencies ++ joins_bytes r.joined r.joins
+    relations.put (r.relations, r.widths) ++ codes_bytes r.coded r.codes ++ dependency_bytes r.held r.dependencies ++ joins_bytes r.joined r.joins
     ++ flatten (map (put_place (schema_of r)) (take n r.places))

@@ -1,36 +1,34 @@
--- `parsing::read_relations` meets its contract: as many bytes follow the count as it says, and they are good widths. Assumes nothing.
-use mathlib.Core.Path.{◌≡◌, sym, ap, ◌∙◌}
-use mathlib.Core.Bool.{cond}
-use mathlib.Core.List.{List, ◌++◌}
-use Prim.Native.Nat.{ℕ, ◌-◌}
-use native.Mathlib.Omega.{arith}
-use lib.ListN.{length, replicate}
-use Rattle.std.specs.Prelude.{None, Some}
-use Rattle.query.specs.Rule.{good_relations}
-use Rattle.parsing.specs.internal.Read.{relations_in}
-use Rattle.parsing.proofs.Relations.{no-count, other-count, right-count, schema-given}
+-- `parsing::read_relations` meets its contract: as many bytes follow the count as it says or more, and they are good widths. Assumes nothing.
+use mathlib.Core.Path.{sym, ap, ◌∙◌}
+use Prim.Native.Nat.{◌≤◌}
+use borrow.Author.Rules.{rules}
+use Rattle.lists.specs.Tests.{between}
+use Rattle.lists.proofs.Tests.{between-true}
+use Rattle.parsing.specs.internal.Read.{reading_of, relations_read}
+use Rattle.parsing.proofs.Counted.{byte-read}
+use Rattle.parsing.proofs.Relations.{no-relations, widths-short, no-schema, schema-read}
+use Rattle.parsing.proofs.Values.{to_end}
 use Rattle.parsing.proofs.read_relations.Goals as goal
-use Rattle.parsing.proofs.read_relations.Goals.{then-widths-gt8-via-then-widths-gt8, then-widths-gt8-via-else-widths-gt8+then-widths-from}
 
 pub returns-in_err-count : goal.returns-in_err-count
-returns-in_err-count c = ap relations_in c.from_residual.ensures ∙ no-count c.args.part.now c.in_err-count.ensures.cases
+returns-in_err-count c =
+    ap relations_read c.from_residual.ensures ∙ no-relations c.args.part.now (sym c.read_byte.ensures ∙ ap reading_of c.in_err-count.was)
 
-pub returns-then-widths-gt8 : goal.returns-then-widths-gt8
-returns-then-widths-gt8 c =
-    rw (c.in_ok-count.ensures.cases.0)
-    (other-count c.in_ok-count.count.now c.in_ok-count.widths.now
-    (λ few same.
-    elim c.then-widths-gt8.branch [
-      | then-widths-gt8-via-then-widths-gt8 w ↦ let more = w.if-widths-gt8.true in omega arith
-      | then-widths-gt8-via-else-widths-gt8+then-widths-from w ↦ w.if-widths-from.true (same ∙ sym w.from.ensures)
-    ]))
+pub returns-then-front-n : goal.returns-then-front-n
+returns-then-front-n c = widths-short c.args.part.now _ _ (sym c.read_byte.ensures ∙ ap reading_of c.in_ok-count.was) c.if-front-n.true
+
+pub padded-requires : goal.padded-requires
+padded-requires c =
+    let few : c.in_ok-count.count ≤ 8 = (between-true 1 8 _ (byte-read (between 1 8) _ _ _ (sym c.read_byte.ensures ∙ ap reading_of c.in_ok-count.was))).1 in
+    search rules
+
+pub returns-in_err-schema : goal.returns-in_err-schema
+returns-in_err-schema c =
+    ap relations_read c.from_residual-in_err-schema.ensures
+    ∙ no-schema c.args.part.now _ _ (sym c.read_byte.ensures ∙ ap reading_of c.in_ok-count.was) c.if-front-n.false _ c.padded.ensures _ c.new.ensures.some
+    c.in_err-schema.was
 
 pub returns : goal.returns
 returns c =
-    let n = c.in_ok-count.count.now in
-    let widths = c.in_ok-count.widths.now in
-    let padded : c.padded.result ≡ widths ++ replicate (8 - length widths) 0 = c.padded.ensures in
-    rw (c.in_ok-count.ensures.cases.0)
-    (schema-given c.new.result n c.padded.result c.new.ensures.some c.new.ensures.fields
-    ∙ ap (λ (ws : List ℕ). cond (good_relations n ws) (Some (n, ws)) None) padded
-    ∙ sym (right-count n widths (c.if-widths-from.false ∙ c.from.ensures)))
+    schema-read c.args.part.now _ _ (sym c.read_byte.ensures ∙ ap reading_of c.in_ok-count.was) c.if-front-n.false _ c.padded.ensures _ c.new.ensures.some
+    c.new.ensures.fields _ c.in_ok-schema.was _ (to_end c.in_ok-count.count c.in_ok-count.front.now)

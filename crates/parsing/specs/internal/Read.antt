@@ -13,15 +13,15 @@ abbrev pub value_given : {A : Type 0} → Reply A → Option A
 value_given (gives a) = Some a
 value_given (refused n) = None
 
--- The number of relations and their widths, if any
-abbrev pub relations_in : Option Schema → Option (ℕ × List ℕ)
-relations_in None = None
-relations_in (Some s) = Some (s.relations, s.widths)
-
 -- What was read off the front of some bytes: the value, and the bytes after it
 abbrev pub reading_of : {A : Type 0} → Option (A × Bor (List ℕ)) → Reading A
 reading_of None = none
 reading_of (Some p) = got p.0 p.1.now
+
+-- The number of relations and their widths that were read, and the bytes after them
+abbrev pub relations_read : Option (Schema × Bor (List ℕ)) → Reading (ℕ × List ℕ)
+relations_read None = none
+relations_read (Some p) = got (p.0.relations, p.0.widths) p.1.now
 
 -- What was read into some room, with the bytes after it
 abbrev pub read_into : {A : Type 0} → List A → Option (Bor (List ℕ)) → Reading (List A)
