@@ -33,19 +33,19 @@ fn write_listing(rt: &HostRuntime, file: &[u8]) -> io::Result<()> {
 }
 
 // The same for a file that is longer than any that is not refused: what has been read of it, and the rest up to 65,536 bytes.
-fn write_long(rt: &HostRuntime, first: &[u8; 4446]) -> io::Result<()> {
+fn write_long(rt: &HostRuntime, first: &[u8; 4575]) -> io::Result<()> {
     let mut file = [0u8; 65536];
-    let (head, rest) = file.split_at_mut(4446);
+    let (head, rest) = file.split_at_mut(4575);
     head.copy_from_slice(first);
     let more = read_full(&mut rt.stdin(), rest)?;
-    write_listing(rt, &file[..4446 + more])
+    write_listing(rt, &file[..4575 + more])
 }
 
-// A file that is not refused has at most 4,445 bytes: no more room is made for it.
+// A file that is not refused has at most 4,574 bytes: no more room is made for it.
 fn main(rt: HostRuntime) -> io::Result<()> {
-    let mut file = [0u8; 4446];
+    let mut file = [0u8; 4575];
     let n = read_full(&mut rt.stdin(), &mut file)?;
-    if n == 4446 {
+    if n == 4575 {
         return write_long(&rt, &file);
     }
     write_listing(&rt, &file[..n])

@@ -1,7 +1,7 @@
 -- What a reduction gives, from what the chase, the loss of rows and the search for a mapping promise:
 --   1. the shortened query, 2. the record with it, 3. the refusals in their order.
 -- The theorems are the theory's `Reduction`. Assumes nothing.
-use Rattle.std.proofs.Common.{◌≡◌, ℕ, ◌*◌, ◌<◌, ◌≤◌, Bool, true, false, ltb, List, [], ◌∷◌, map, length, take, get_or, replicate, sym, refl, ap, ◌∙◌, subst, subst₂, arith, le-ltb, lt-ltb}
+use Rattle.std.proofs.Common.{◌≡◌, ℕ, ◌*◌, ◌<◌, ◌≤◌, Bool, true, false, ltb, List, [], ◌∷◌, map, length, take, replicate, sym, refl, ap, ◌∙◌, subst, subst₂, arith, le-ltb, lt-ltb}
 use mathlib.Core.Option.{none, some}
 use Rattle.query.specs.Types.{Query}
 use Rattle.query.specs.declared.Dependency.{Dependency}
@@ -10,7 +10,7 @@ use Rattle.query.specs.declared.Place.{Place}
 use Rattle.record.specs.declared.Record.{Record}
 use Rattle.std.specs.Prelude.{Ok}
 use Rattle.query.specs.View.{query_of, as_query, dependency_of, images_of}
-use Rattle.record.specs.View.{schema_of, dependencies_of}
+use Rattle.record.specs.View.{schema_of, codes_of, dependencies_of}
 use Rattle.lists.specs.Tests.{every, between}
 use Rattle.query.specs.Rule.{good_dependency, blank_dependency, good_query, head_safe, no_cell, no_place, place_with, shaped_for}
 use Rattle.record.specs.Rule.{good_record}
@@ -19,7 +19,6 @@ use Rattle.record.specs.Calls.{unknown_place, vacant, is_filled, with_place, sto
 use Rattle.record.specs.internal.Lookup.{place_at, filled_place, vacant_place}
 use Rattle.lists.proofs.Tests.{used-good}
 use Rattle.record.proofs.Good.{good-record}
-use Rattle.record.proofs.Stored.{place-good, filled-parts}
 use Rattle.query.proofs.Good.{good-query}
 use Rattle.query.proofs.Shape.{SizedFor}
 use Rattle.query.proofs.Stored.{well-formed}
@@ -36,6 +35,12 @@ use Rattle.theory.specs.Query.{WellFormed, variables_of, row_entries, ◌∈◌}
 use Rattle.theory.specs.Answer.{IsMapping, Mapping}
 use Rattle.theory.specs.Chase.{chase}
 use Rattle.theory.specs.Database as database
+use Rattle.theory.specs.Codes.{CodePair, read_query, QueryWithoutOld}
+use Rattle.theory.proofs.Theorems.{a-current-query-stays}
+use Rattle.minimization.proofs.Theorems.{a-result-is-current, reduced-minimal-as-read}
+use Rattle.record.specs.Calls.{query_at}
+use Rattle.record.specs.internal.Reading.{ReadAs}
+use Rattle.record.proofs.Reading.{read-current}
 use Rattle.minimization.specs.Reduction.{Reduction}
 use Rattle.minimization.specs.Kept.{core_of, reduced}
 use Rattle.minimization.proofs.Kept.{reduced-reduction}
@@ -44,7 +49,7 @@ use Rattle.query.proofs.Meaning.{stored-back}
 use Rattle.theory.proofs.Carry.{mapping-target}
 use Rattle.theory.proofs.Chase.{chase-count-le}
 use Rattle.theory.proofs.Lists.{subset-of}
-use Rattle.minimization.proofs.Reduction.{reduction-answers, reduction-minimal, reduction-mapping, reduction-wellformed}
+use Rattle.minimization.proofs.Reduction.{reduction-answers, reduction-mapping, reduction-wellformed}
 use Rattle.std.specs.Prelude.{Option as Maybe, Some, None, unwrap_or}
 use Rattle.reduction.specs.declared.Shortened.{Shortened}
 use Rattle.reduction.specs.declared.Reduced.{Reduced}
@@ -91,13 +96,13 @@ found_none : (S T : theory.Query) (mapped : Maybe (List Cell)) → IsMapped S T 
 found_none S T (Some images) is empty = absurd (mapping-target S T (images_of images, is) empty)
 found_none S T None is empty = refl
 
-pub shortened : (schema : List ℕ) (ds : List database.Dependency) (q query result : Query) (count : ℕ) (mapped : Maybe (List Cell))
+pub shortened : (codes : List CodePair) (schema : List ℕ) (ds : List database.Dependency) (q query result : Query) (count : ℕ) (mapped : Maybe (List Cell))
     → every (between 1 8) schema ≡ true → 8 * q.size ≤ length q.cells → good_query schema q ≡ true → head_safe schema q ≡ true
-    → query_of schema query ≡ (chase ds (query_of schema q)).query → count ≡ (chase ds (query_of schema q)).count → IsCoreOf schema query result
+    → QueryWithoutOld codes (query_of schema q) → query_of schema query ≡ (chase ds (query_of schema q)).query → count ≡ (chase ds (query_of schema q)).count → IsCoreOf schema query result
     → IsMapped (query_of schema q) (query_of schema result) mapped
-    → IsShortened schema ds q (record { query = result; count = count; images = images_found mapped })
+    → IsShortened codes schema ds q (record { query = result; count = count; images = images_found mapped })
 unfolding head_safe
-shortened schema ds q query result count mapped widths long good safe is counted p m =
+shortened codes schema ds q query result count mapped widths long good safe without is counted p m =
     let S = query_of schema q in
     let T = query_of schema result in
     let given : T ≡ reduced ds S = p.view ∙ ap core_of is in
@@ -111,7 +116,8 @@ shortened schema ds q query result count mapped widths long good safe is counted
         result = result-is;
         mapping = λ some-rows. found-mapping mapped m (reduction-mapping ds S T result-is some-rows);
         answers = reduction-answers ds S T result-is;
-        minimal = reduction-minimal schema ds S T well.rows_fit result-is;
+        current = a-result-is-current codes schema ds S T well.rows_fit without result-is;
+        minimal = reduced-minimal-as-read codes schema ds S T well.rows_fit without result-is;
         counted = counted;
         count-le = rw counted (chase-count-le ds S);
       };
@@ -120,53 +126,53 @@ shortened schema ds q query result count mapped widths long good safe is counted
 
 -- ---- 2. the record with it
 
-module _ (r : Record) (source target : ℕ) (able : Reducible r source target) (long : length r.places ≡ 8) where
-  source-parts : (good_query (schema_of r) (stored_at r source) ≡ true) × (head_safe (schema_of r) (stored_at r source) ≡ true)
-  source-parts =
-      filled-parts (schema_of r) (get_or r.places source no_place)
-      (place-good r able.good source no_place (omega (arith, able.source-low))) able.source-filled
+module _ (r : Record) (source target : ℕ) (able : Reducible r source target) where
+  wide : every (between 1 8) (schema_of r) ≡ true
+  wide = good-widths r.relations r.widths (good-record r able.good).relations
 
-  -- The query and the dependencies of the record can be shortened
-  pub able-shortenable : (q : Query) → q ≡ stored_at r source → Shortenable q (take r.held r.dependencies)
-  able-shortenable q is =
-      let g = good-record r able.good in
-      record {
-        schema = schema_of r;
-        widths = good-widths r.relations r.widths g.relations;
-        dependencies-good = used-good r.held (good_dependency (schema_of r)) blank_dependency r.dependencies g.dependencies;
-        query-good = ap (good_query (schema_of r)) is ∙ source-parts.0;
-      }
+  module _ (q : Query) (is : ReadAs r source q) where
+    -- The query and the dependencies of the record can be shortened
+    pub able-shortenable : Shortenable q (take r.held r.dependencies)
+    able-shortenable =
+        record {
+          schema = schema_of r;
+          widths = wide;
+          dependencies-good = used-good r.held (good_dependency (schema_of r)) blank_dependency r.dependencies (good-record r able.good).dependencies;
+          query-good = is.good;
+        }
 
-  -- What is stored meets demand 3
-  pub stored-reduced : (q : Query) → q ≡ stored_at r source → (s : Shortened) → shaped_for 12 s.query ≡ true
-      → ((schema : List ℕ) → every (between 1 8) schema ≡ true → good_query schema q ≡ true → head_safe schema q ≡ true
-      → IsShortened schema (dependencies_of r) q s)
-      → ShortFormStored r source target
-      (record { answer = Ok tt; «record» = with_place r target (place_with s.query); count = s.count; images = s.images })
-  stored-reduced q is s shaped tells =
-      let schema = schema_of r in
-      let after = with_place r target (place_with s.query) in
-      let told : IsShortened schema (dependencies_of r) q s =
-      tells schema (good-widths r.relations r.widths (good-record r able.good).relations) (ap (good_query schema) is ∙ source-parts.0)
-      (ap (head_safe schema) is ∙ source-parts.1)
-      in
-      let read : s.query ≡ stored_at after target =
-      sym (ap (λ (p : Place). p.query) (place_read r target (place_with s.query) no_place (omega (arith, able.target-low))))
-      in
-      record {
-        done = refl;
-        stored =
-            ap (λ (x : Query). with_place r target (place_with x))
-            (sym (stored-back 12 schema (width-le schema (good-widths r.relations r.widths (good-record r able.good).relations)) s.query shaped told.good)
-            ∙ ap (stored_form 12) (told.reduces.given ∙ ap (λ (x : Query). reduced (dependencies_of r) (query_of schema x)) is));
-        good = place_kept r target (place_with s.query) able.good (filled-place schema s.query told.good told.safe);
-        reduces =
-            subst (λ (x : Query). ReducesTo schema (dependencies_of r) (query_of schema (stored_at r source)) (query_of schema x) s.count
-            (images_of s.images)) read
-            (subst (λ (x : Query). ReducesTo schema (dependencies_of r) (query_of schema x) (query_of schema s.query) s.count (images_of s.images)) is
-            told.reduces);
-        no-mapping = λ empty. told.no-mapping (ap (λ (x : Query). (query_of schema x).rows) read ∙ empty);
-      }
+    -- What is stored meets demand 3
+    pub stored-reduced : length r.places ≡ 8 → (s : Shortened) → shaped_for 12 s.query ≡ true
+        → ((codes : List CodePair) (schema : List ℕ) → every (between 1 8) schema ≡ true → good_query schema q ≡ true → head_safe schema q ≡ true
+        → QueryWithoutOld codes (query_of schema q) → IsShortened codes schema (dependencies_of r) q s)
+        → ShortFormStored r source target
+        (record { answer = Ok tt; «record» = with_place r target (place_with s.query); count = s.count; images = s.images })
+    stored-reduced long s shaped tells =
+        let codes = codes_of r in
+        let schema = schema_of r in
+        let after = with_place r target (place_with s.query) in
+        let told : IsShortened codes schema (dependencies_of r) q s =
+        tells codes schema wide is.good is.safe (subst (QueryWithoutOld codes) (sym is.query) (read-current r able.good source))
+        in
+        -- the target place holds the shortened query, which is read as it stands
+        let held : stored_at after target ≡ s.query =
+        ap (λ (p : Place). p.query) (place_read r target (place_with s.query) no_place (omega (arith, able.target-low)))
+        in
+        let read : query_at after target ≡ query_of schema s.query =
+        ap (λ (x : Query). read_query codes (query_of schema x)) held ∙ a-current-query-stays codes (query_of schema s.query) told.reduces.current
+        in
+        record {
+          done = refl;
+          stored =
+              ap (λ (x : Query). with_place r target (place_with x))
+              (sym (stored-back 12 schema (width-le schema wide) s.query shaped told.good)
+              ∙ ap (stored_form 12) (told.reduces.given ∙ ap (reduced (dependencies_of r)) is.query));
+          good = place_kept r target (place_with s.query) able.good (filled-place schema s.query told.good told.safe);
+          reduces =
+              subst₂ (λ (S T : theory.Query). ReducesTo codes schema (dependencies_of r) S T s.count (images_of s.images)) is.query (sym read) told.reduces;
+          as-stored = read ∙ ap (query_of schema) (sym held);
+          no-mapping = λ empty. told.no-mapping (ap (λ (x : theory.Query). x.rows) (sym read) ∙ empty);
+        }
 
 -- ---- 3. the refusals in their order
 

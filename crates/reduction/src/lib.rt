@@ -1,10 +1,11 @@
-// Reducing the query of one place into a vacant one: chase it, take the core of what that gives, and find a mapping from the query as it was stored.
+// Reducing the query of one place into a vacant one: read it, chase it, take the core of what that gives, and find a mapping from the query as it was read.
 #![tactic(auto)]
 
 ghost use Rattle.std.specs.Prelude.{◌≡◌, ℕ, true, List, map};
 ghost use Rattle.lists.specs.Tests.{every, between};
 ghost use Rattle.query.specs.Rule.{good_query, head_safe};
-ghost use Rattle.query.specs.View.{dependency_of};
+ghost use Rattle.query.specs.View.{dependency_of, query_of};
+ghost use Rattle.theory.specs.Codes.{CodePair, QueryWithoutOld};
 ghost use Rattle.refusals.specs.Refusal.{number_of};
 ghost use Rattle.reduction.specs.Reduced.{reduced_reply, refused_reduction, IsReduced, ShortFormStored};
 ghost use Rattle.mapping.specs.internal.Mapped.{Storable};
@@ -12,7 +13,7 @@ ghost use Rattle.reduction.specs.internal.Steps.{Shortenable, IsShortened, Maps,
 
 use query::{Cell, Dependency, Entry, Place, Query};
 use record::Record;
-use record::calls::{stored, with_place};
+use record::calls::with_place;
 use refusals::Refusal;
 use tableaux::{from_query, to_query};
 
@@ -78,8 +79,8 @@ fn mapped(source: Query, target: Query) -> Option<[Cell; 96]>
 // Shortens a query: chases it, takes its core, the rows that are kept in their order, and finds a mapping from the query as it was.
 fn shorten(q: Query, dependencies: &[Dependency]) -> Shortened
     requires { Shortenable q dependencies.now }
-    ensures { (schema : List ℕ) → every (between 1 8) schema ≡ true → good_query schema q ≡ true → head_safe schema q ≡ true → IsShortened schema
-        (map dependency_of dependencies.now) q result }
+    ensures { (codes : List CodePair) (schema : List ℕ) → every (between 1 8) schema ≡ true → good_query schema q ≡ true → head_safe schema q ≡ true
+        → QueryWithoutOld codes (query_of schema q) → IsShortened codes schema (map dependency_of dependencies.now) q result }
 {
     let chased = chase::chase(from_query(q), dependencies);
     let query = to_query(chased.query);
@@ -92,12 +93,12 @@ fn shorten(q: Query, dependencies: &[Dependency]) -> Shortened
     }
 }
 
-// Reduces the query at a filled place into a vacant one.
+// Reduces the query of a filled place, as it is read, into a vacant one.
 fn store_reduced(given: Record, source: usize, target: usize) -> Reduced
     requires { Reducible given source target }
     ensures { ShortFormStored given source target result }
 {
-    let long = stored(given, source);
+    let long = given.query(source);
     let shortened = shorten(long, given.dependencies_held());
     let short = shortened.query;
     let images = shortened.images;

@@ -1,5 +1,5 @@
 -- The lines of a filled place: what its reduction in the record without the other places gives may be listed, and is its lines. Assumes nothing.
-use mathlib.Core.Path.{◌≡◌, sym, ap, ap₂, ◌∙◌, subst}
+use mathlib.Core.Path.{◌≡◌, sym, ap, ap₂, ◌∙◌, subst, subst₂}
 use mathlib.Core.Logic.{◌≢◌}
 use mathlib.Core.Bool.{true}
 use mathlib.Core.List.{List, []}
@@ -11,7 +11,7 @@ use lib.Seq.{get_or-set_same}
 use Rattle.query.specs.Types.{Query}
 use Rattle.query.specs.declared.Place.{Place}
 use Rattle.record.specs.declared.Record.{Record}
-use Rattle.record.specs.View.{schema_of, dependencies_of}
+use Rattle.record.specs.View.{schema_of, codes_of, dependencies_of}
 use Rattle.query.specs.View.{query_of, images_of}
 use Rattle.lists.specs.Tests.{every}
 use Rattle.query.specs.Rule.{good_cell, good_query, head_safe, no_place}
@@ -32,6 +32,7 @@ use Rattle.theory.specs.Query as theory
 use Rattle.theory.specs.Answer.{IsMapping}
 use Rattle.report.specs.internal.Places.{LinesWritten, alone_in, other_place}
 use Rattle.report.proofs.Images.{images-good}
+use Rattle.report.proofs.ReadText.{text-read}
 use Rattle.report.proofs.OnePlace.{other-low, alone-query, alone-accepted}
 
 module _ (r : Record) (place : ℕ) (low : place < 8) (good : good_record r ≡ true) (long : length r.places ≡ 8) (held : is_filled r place ≡ true)
@@ -86,14 +87,12 @@ module _ (r : Record) (place : ℕ) (low : place < 8) (good : good_record r ≡ 
 
   -- The query at the target is the result
   target_is : query_at o.«record» (other_place place) ≡ query_of (schema_of r) result
-  target_is =
-      ap (λ (s : List ℕ). query_of s (stored_at o.«record» (other_place place))) same-schema ∙ ap (λ (q : Query). query_of (schema_of r) q) (sym result-stored)
+  target_is = (alone-reduced.accepted accepted).as-stored ∙ ap (λ (q : Query). query_of (schema_of r) q) (sym result-stored)
 
-  reduces : ReducesTo (schema_of r) (dependencies_of r) (query_at r place) (query_of (schema_of r) result) o.count (images_of o.images)
+  reduces : ReducesTo (codes_of r) (schema_of r) (dependencies_of r) (query_at r place) (query_of (schema_of r) result) o.count (images_of o.images)
   reduces =
-      subst (λ (T : theory.Query). ReducesTo (schema_of r) (dependencies_of r) (query_at r place) T o.count (images_of o.images)) target_is
-      (subst (λ (S : theory.Query). ReducesTo (schema_of r) (dependencies_of r) S (query_at o.«record» (other_place place)) o.count (images_of o.images))
-      (alone-query r place low) (alone-reduced.accepted accepted).reduces)
+      subst₂ (λ (S T : theory.Query). ReducesTo (codes_of r) (schema_of r) (dependencies_of r) S T o.count (images_of o.images))
+      (alone-query r place low) target_is (alone-reduced.accepted accepted).reduces
 
   good-images : every good_cell o.images ≡ true
   good-images =
@@ -129,6 +128,7 @@ module _ (r : Record) (place : ℕ) (low : place < 8) (good : good_record r ≡ 
               mapping = subst (λ (T : theory.Query). T.rows ≢ [] → IsMapping (query_at r place) T (images_of o.images)) reduces.given reduces.mapping;
               text =
                   ap (λ (q : Query). place_text place (query_of (schema_of r) q) (query_of (schema_of r) result) o.count (images_of o.images)) source_is
+                  ∙ sym (text-read (codes_of r) place (query_of (schema_of r) (stored_at r place)) (query_of (schema_of r) result) o.count (images_of o.images))
                   ∙ ap₂ (λ (T : theory.Query) (n : ℕ). place_text place (query_at r place) T n (images_of o.images)) reduces.given reduces.counted;
             };
         short =

@@ -12,7 +12,8 @@ use lib.Seq.{get_or-set_same, get_or-set_other}
 use borrow.Author.Tests.{eqb-true, eqb-false, lt-ltb}
 use Rattle.query.specs.declared.Place.{Place}
 use Rattle.record.specs.declared.Record.{Record}
-use Rattle.record.specs.View.{schema_of}
+use Rattle.theory.specs.Codes.{read_query}
+use Rattle.record.specs.View.{schema_of, codes_of}
 use Rattle.query.specs.View.{query_of}
 use Rattle.query.specs.Rule.{good_place, no_place}
 use Rattle.record.specs.Rule.{good_record}
@@ -55,7 +56,7 @@ module _ (r : Record) (place : ℕ) (low : place < 8) where
       ∙ get_or-replicate 8 (other_place place) no_place no_place (other-low place)
 
   pub alone-query : query_at (alone_in r place) place ≡ query_at r place
-  alone-query = ap (λ (p : Place). query_of (schema_of r) p.query) alone-place
+  alone-query = ap (λ (p : Place). read_query (codes_of r) (query_of (schema_of r) p.query)) alone-place
 
   module _ (good : good_record r ≡ true) (long : length r.places ≡ 8) where
     pub alone-good : good_record (alone_in r place) ≡ true
@@ -64,6 +65,9 @@ module _ (r : Record) (place : ℕ) (low : place < 8) where
         make-record (alone_in r place)
         (record {
           relations = g.relations;
+          coded = g.coded;
+          codes = g.codes;
+          no-codes = g.no-codes;
           held = g.held;
           dependencies = g.dependencies;
           joined = g.joined;

@@ -14,7 +14,8 @@ use Rattle.lists.specs.Numbers.{numbers_where}
 use Rattle.text.specs.Text.{place_text, refused_text}
 use Rattle.theory.specs.Query as theory
 
--- The lines of a place: its number, its query, the result of reduction under the record's functional dependencies, the count, and a mapping to the result
+-- The lines of a place: its number, its query as it is read, the result of reduction under the record's functional dependencies, the count, and a mapping to
+-- the result
 pub record Lines (r : Record) (place : ℕ) (lines : List ℕ) : Type 0 where
   pub images : ℕ → theory.Entry
   pub mapping : (reduced (dependencies_of r) (query_at r place)).rows ≢ []

@@ -44,6 +44,7 @@ fn write_lines(buffer: &mut [u8], at: usize, given: Record, place: usize) -> usi
 {
     let target = other_place(place);
     let single = alone(given, place);
+    // As it is stored: the lines are of its rows and its variables, which reading its codes keeps.
     let source = record::calls::stored(given, place);
     let reduced = reduction::reduce(single, place, target);
     let after = reduced.record;

@@ -5,6 +5,6 @@ use Rattle.listing.proofs.write_long.Goals as goal
 
 pub slice_bounds-write_listing-end : goal.slice_bounds-write_listing-end
 slice_bounds-write_listing-end c =
-    let first : length c.copy_from_slice.new.self ≡ 4446 = search rules in
+    let first : length c.copy_from_slice.new.self ≡ 4575 = search rules in
     let more : c.in_ok-more.more ≤ length c.read_full.new.buffer = search rules in
-    sym (length-take-le (4446 + c.in_ok-more.more) (c.copy_from_slice.new.self ++ c.read_full.new.buffer) (rw length-append (omega arith)))
+    sym (length-take-le (4575 + c.in_ok-more.more) (c.copy_from_slice.new.self ++ c.read_full.new.buffer) (rw length-append (omega arith)))

@@ -72,7 +72,7 @@ returns c =
     let q = a.q in
     let at = goal.at.returns c in
     let cored = at.After-to_query-query in
-    λ schema widths good safe.
+    λ codes schema widths good safe without.
     let narrow = width-le schema widths in
     let s = stored-sized cored in
     let is = chased cored schema widths good in
@@ -81,9 +81,9 @@ returns c =
     let long : 8 * q.size ≤ length q.cells = omega (arith, s.cells, (good-query 12 schema q good).size) in
     let query-is = c.to_query-query.ensures in
     let same : q.arity ≡ c.core_of-result.result.arity = sym (p.same-arity ∙ ap (λ (x : Query). x.arity) query-is ∙ is.same-arity) in
-    let told = shortened schema _ q (stored_of c.chase-chased.result.query) c.core_of-result.result c.chase-chased.result.count
+    let told = shortened codes schema _ q (stored_of c.chase-chased.result.query) c.core_of-result.result c.chase-chased.result.count
     c.mapped-images.result
-    widths long good safe
+    widths long good safe without
     (chased-query schema widths a.dependencies.now q s good c.chase-chased.result is (roomy cored))
     (chased-counted schema widths a.dependencies.now q s good c.chase-chased.result is (roomy cored))
     (rw query-is at p)
@@ -91,6 +91,6 @@ returns c =
     in
     subst
     (λ (images : List Cell).
-    IsShortened schema (map dependency_of a.dependencies.now) q
+    IsShortened codes schema (map dependency_of a.dependencies.now) q
     (record { query = c.core_of-result.result; count = c.chase-chased.result.count; images = images }))
     (sym c.unwrap_or.ensures) told

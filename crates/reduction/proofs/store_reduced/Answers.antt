@@ -20,15 +20,17 @@ shaped c =
     let cells : length c.shorten-shortened.result.query.cells ≡ 96 = search (mapped-length, rules, ok) in
     rw (head, relations, cells) refl
 
+pub query-long-requires : goal.query-long-requires
+query-long-requires c = (c.requires.source-low, c.requires.good, c.requires.source-filled)
+
 pub shorten-shortened-requires : goal.shorten-shortened-requires
 shorten-shortened-requires c =
-    rw c.dependencies_held.ensures
-    (able-shortenable c.args.given c.args.source c.args.target c.requires (eight (goal.at.shorten-shortened-requires c).Start) _ c.stored-long.ensures)
+    rw c.dependencies_held.ensures (able-shortenable c.args.given c.args.source c.args.target c.requires c.query-long.result c.query-long.ensures)
 
 pub returns : goal.returns
 returns c =
     rw c.with_place.ensures
-    (stored-reduced c.args.given c.args.source c.args.target c.requires (eight (goal.at.returns c).Start) _ c.stored-long.ensures
+    (stored-reduced c.args.given c.args.source c.args.target c.requires c.query-long.result c.query-long.ensures (eight (goal.at.returns c).Start)
     c.shorten-shortened.result (shaped (goal.at.returns c).After-shorten-shortened) (rw c.dependencies_held.ensures at c.shorten-shortened.ensures))
 
 pub dependencies_held-requires : goal.dependencies_held-requires

@@ -11,6 +11,7 @@ use Rattle.query.specs.Rule.{good_dependency, good_query, head_safe, no_cell}
 use Rattle.record.specs.Rule.{good_record}
 use Rattle.record.specs.Calls.{is_filled}
 use Rattle.theory.specs.Database as database
+use Rattle.theory.specs.Codes.{CodePair}
 use Rattle.reduction.specs.declared.Shortened.{Shortened}
 use Rattle.reduction.specs.Reduced.{ReducesTo}
 
@@ -21,11 +22,11 @@ pub record Shortenable (q : Query) (dependencies : List Dependency) : Type 0 whe
   pub dependencies-good : every (good_dependency schema) dependencies ≡ true
   pub query-good : good_query schema q ≡ true
 
--- What a query is shortened to, read through a schema that makes it good: a good query with a safe head, and demand 3's facts of it
-pub record IsShortened (schema : List ℕ) (ds : List database.Dependency) (q : Query) (r : Shortened) : Type 0 where
+-- What a query without old codes is shortened to, read through a schema that makes it good: a good query with a safe head, and demand 3's facts of it
+pub record IsShortened (codes : List CodePair) (schema : List ℕ) (ds : List database.Dependency) (q : Query) (r : Shortened) : Type 0 where
   pub good : good_query schema r.query ≡ true
   pub safe : head_safe schema r.query ≡ true
-  pub reduces : ReducesTo schema ds (query_of schema q) (query_of schema r.query) r.count (images_of r.images)
+  pub reduces : ReducesTo codes schema ds (query_of schema q) (query_of schema r.query) r.count (images_of r.images)
   pub no-mapping : (query_of schema r.query).rows ≡ [] → r.images ≡ replicate 96 no_cell
 
 -- What is found: images that are a mapping, or none where there is no mapping, of the queries that two stored ones are under every schema that makes both good

@@ -16,6 +16,8 @@ alone_in r place =
     record {
       relations = r.relations;
       widths = r.widths;
+      coded = r.coded;
+      codes = r.codes;
       held = r.held;
       dependencies = r.dependencies;
       joined = r.joined;
