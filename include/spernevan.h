@@ -22,15 +22,18 @@
  *      in a file, also whatever stands in part 1 after the functional dependencies and is not 1 to 4 join dependencies
  *  16  the record has its 4 join dependencies already
  *  17  a comparison would make a query of 25 rows
+ *  18  a pair of codes has two equal codes or one above 2147483647, or its old code stands in another pair, or its current code is old in another;
+ *      in a file, also whatever stands in part 0 after the widths and is not 1 to 16 pairs
+ *  19  the record has its 16 pairs of codes already
  * 14, a record that breaks its rule, does not come here: a file that is read holds none.
- * A file that cannot be read is refused with 1 to 6 or 15 before anything else, and 10 comes last of all, but for the room of a comparison's mapping.
+ * A file that cannot be read is refused with 1 to 6, 15 or 18 before anything else, and 10 comes last of all, but for the room of a comparison's mapping.
  * A refusal leaves every buffer and every number as it was; working memory too, unless the number is 10.
  *
  * A pointer is never null, also where the length beside it is 0: any address that is aligned for its type will do then.
  * Lengths count elements, not bytes: a uint32_t buffer of n words is n. What a function writes to overlaps nothing else that it is given.
  * Bytes and words of a buffer after those that are written stay as they were.
  *
- * No file is longer than 4445 bytes, no query part of a file than 534, and no query part that a comparison gives than 1026, so buffers of SPERNEVAN_FILE,
+ * No file is longer than 4574 bytes, no query part of a file than 534, and no query part that a comparison gives than 1026, so buffers of SPERNEVAN_FILE,
  * SPERNEVAN_QUERY and SPERNEVAN_CHASED bytes are never too short.
  *
  * For 64-bit x86 Linux only. Every call uses less than 1 MB of stack: a thread whose stack is smaller must not make it.
@@ -65,7 +68,7 @@
 #include <stddef.h>
 #include <stdint.h>
 
-#define SPERNEVAN_FILE 4445
+#define SPERNEVAN_FILE 4574
 #define SPERNEVAN_QUERY 534
 #define SPERNEVAN_CHASED 1026
 #define SPERNEVAN_MAPPING 192
@@ -76,13 +79,13 @@ extern "C" {
 
 /*
  * Whether the bytes are a file.
- * Takes a file. Returns 0, or 1 to 6 or 15.
+ * Takes a file. Returns 0, or 1 to 6, 15 or 18.
  */
 uint8_t spernevan_read(const uint8_t *file, size_t file_length);
 
 /*
  * Reads a file and writes its record back, which gives the same bytes.
- * Takes a file and a buffer. Returns 0 with the file in `out` and its length in `*length`; or 1 to 6 or 15, 10.
+ * Takes a file and a buffer. Returns 0 with the file in `out` and its length in `*length`; or 1 to 6, 15 or 18, 10.
  */
 uint8_t spernevan_write(const uint8_t *file, size_t file_length, uint8_t *out, size_t out_length, size_t *length);
 
@@ -93,10 +96,18 @@ uint8_t spernevan_write(const uint8_t *file, size_t file_length, uint8_t *out, s
 uint8_t spernevan_open(const uint8_t *widths, size_t widths_length, uint8_t *out, size_t out_length, size_t *length);
 
 /*
+ * Adds a pair of codes after those held: from now on constant `old` is read as constant `current`, in queries, in mappings that are checked and in databases,
+ * before anything else is done. Stored queries keep what was put in; what is given back has current codes.
+ * Takes a file and two different codes, each at most 2147483647. `old` stands in no pair that is held, and `current` is the old code of none.
+ * Returns 0 with the new file in `out` and its length in `*length`; or 1 to 6, 15 or 18, then 18, 19, 10.
+ */
+uint8_t spernevan_add_code(const uint8_t *file, size_t file_length, uint32_t old, uint32_t current, uint8_t *out, size_t out_length, size_t *length);
+
+/*
  * Adds a functional dependency after those held.
  * Takes a file, a relation, a left set (bit c for column c) and a right column. With the left set 0 it says that the right column never varies:
  * all rows of the relation have the same value there.
- * Returns 0 with the new file in `out` and its length in `*length`; or 1 to 6 or 15, then 4, 13, 10.
+ * Returns 0 with the new file in `out` and its length in `*length`; or 1 to 6, 15 or 18, then 4, 13, 10.
  */
 uint8_t spernevan_add(const uint8_t *file, size_t file_length, uint8_t relation, uint8_t left, uint8_t right,
                       uint8_t *out, size_t out_length, size_t *length);
@@ -104,7 +115,7 @@ uint8_t spernevan_add(const uint8_t *file, size_t file_length, uint8_t relation,
 /*
  * Adds a join dependency after those held: the relation is the join of its parts that have these sets of columns.
  * Takes a file, a relation and 2 to 4 sets (bit c for column c), none of them empty, that together are all columns of the relation.
- * Returns 0 with the new file in `out` and its length in `*length`; or 1 to 6 or 15, then 15, 16, 10.
+ * Returns 0 with the new file in `out` and its length in `*length`; or 1 to 6, 15 or 18, then 15, 16, 10.
  */
 uint8_t spernevan_add_join(const uint8_t *file, size_t file_length, uint8_t relation, const uint8_t *sets, size_t sets_length,
                            uint8_t *out, size_t out_length, size_t *length);
@@ -112,28 +123,28 @@ uint8_t spernevan_add_join(const uint8_t *file, size_t file_length, uint8_t rela
 /*
  * Puts a query into a vacant place.
  * Takes a file, a place and a query part; 255 alone is no query part here (5).
- * Returns 0 with the new file in `out` and its length in `*length`; or 1 to 6 or 15, then 7, 5, 6, 12, 10 in this order.
+ * Returns 0 with the new file in `out` and its length in `*length`; or 1 to 6, 15 or 18, then 7, 5, 6, 12, 10 in this order.
  */
 uint8_t spernevan_put(const uint8_t *file, size_t file_length, size_t place, const uint8_t *query, size_t query_length,
                       uint8_t *out, size_t out_length, size_t *length);
 
 /*
  * Drops a filled place.
- * Takes a file and a place. Returns 0 with the new file in `out` and its length in `*length`; or 1 to 6 or 15, then 7, 11, 10.
+ * Takes a file and a place. Returns 0 with the new file in `out` and its length in `*length`; or 1 to 6, 15 or 18, then 7, 11, 10.
  */
 uint8_t spernevan_drop(const uint8_t *file, size_t file_length, size_t place, uint8_t *out, size_t out_length, size_t *length);
 
 /*
  * The columns of a relation that a left set determines by the functional dependencies.
  * Takes a file, a relation and a left set (bit c for column c). The left set 0 determines the columns that never vary, if there are any.
- * Returns 0 with their set in `*columns` and their number in `*count`, which may be 0; or 1 to 6 or 15, then 4.
+ * Returns 0 with their set in `*columns` and their number in `*count`, which may be 0; or 1 to 6, 15 or 18, then 4.
  */
 uint8_t spernevan_determined(const uint8_t *file, size_t file_length, uint8_t relation, uint8_t left, uint8_t *columns, uint8_t *count);
 
 /*
  * Reduces the query of a filled place into a vacant one, by the functional dependencies.
  * Takes a file and the two places. Returns 0 with the new file in `out`, its length in `*length`, the number of replacements in `*count`,
- * and in `mapping` a mapping from the source query to the result, all 0 where the result has no rows; or 1 to 6 or 15, then 7, 11, 12, 10.
+ * and in `mapping` a mapping from the source query to the result, all 0 where the result has no rows; or 1 to 6, 15 or 18, then 7, 11, 12, 10.
  * The new file and the number are fixed by the file and the places: which rows stay, and in which order, is in docs/SPECIFICATION.md, Reduction.
  * Which of several mappings is given is free.
  * 10 stands for a mapping buffer of under SPERNEVAN_MAPPING words too.
@@ -148,14 +159,14 @@ uint8_t spernevan_reduce(const uint8_t *file, size_t file_length, size_t source,
  *   1  yes, by the mapping from q's query to p's chased query in `mapping`
  *   2  yes, because p's query chases to the query that has no answers
  * Where there is no mapping, `mapping` gets 0s; where there is no query, `query` stays and `*length` is 0.
- * Or returns 1 to 6 or 15, then 7, 11, 8, 10 for a mapping buffer of under SPERNEVAN_MAPPING words, 17, 10 for a query that does not fit.
+ * Or returns 1 to 6, 15 or 18, then 7, 11, 8, 10 for a mapping buffer of under SPERNEVAN_MAPPING words, 17, 10 for a query that does not fit.
  */
 uint8_t spernevan_compare(const uint8_t *file, size_t file_length, size_t p, size_t q, uint8_t *verdict, uint32_t *mapping, size_t mapping_length,
                           uint8_t *query, size_t query_length, size_t *length);
 
 /*
  * Whether words are a mapping from the query of place q to that of place p, as both are stored.
- * Takes a file, the two places and the words. Returns 0 with 1 (yes) or 0 (no) in `*verdict`; or 1 to 6 or 15, then 7, 11, 8.
+ * Takes a file, the two places and the words. Returns 0 with 1 (yes) or 0 (no) in `*verdict`; or 1 to 6, 15 or 18, then 7, 11, 8.
  * Words that are not SPERNEVAN_MAPPING, with a tag above 1 or a variable above 255 are no mapping: no.
  */
 uint8_t spernevan_check(const uint8_t *file, size_t file_length, size_t p, size_t q, const uint32_t *mapping, size_t mapping_length, uint8_t *verdict);
@@ -167,7 +178,7 @@ uint8_t spernevan_check(const uint8_t *file, size_t file_length, size_t p, size_
  *   0  a functional dependency is broken: the position of the first in `*dependency`, those of its first pair of rows in `*first` and `*second`
  *   2  a join dependency is broken: the position of the first among the join dependencies in `*dependency`, and in `*first`, `*second`, `*third` and `*fourth`
  *      those of its first choice of rows that yields a row which is not there, one row for each set in the order of the sets
- * All positions are from 0, and 0 stands where there is none. Or returns 1 to 6 or 15, then 9.
+ * All positions are from 0, and 0 stands where there is none. Or returns 1 to 6, 15 or 18, then 9.
  */
 uint8_t spernevan_test(const uint8_t *file, size_t file_length, const uint32_t *words, size_t words_length, uint8_t *verdict, size_t *dependency,
                        size_t *first, size_t *second, size_t *third, size_t *fourth);
@@ -175,7 +186,7 @@ uint8_t spernevan_test(const uint8_t *file, size_t file_length, const uint32_t *
 /*
  * Evaluates the query of a place on a database.
  * Takes a file, a place and the database. Returns 0 with the answers in `answers`, ascending by their words from the left and each once, as many words each as the
- * head has entries, and their number in `*count`; or 1 to 6 or 15, then 7, 11, 9, 10. With an empty head there is one answer, of no words, or none.
+ * head has entries, and their number in `*count`; or 1 to 6, 15 or 18, then 7, 11, 9, 10. With an empty head there is one answer, of no words, or none.
  */
 uint8_t spernevan_evaluate(const uint8_t *file, size_t file_length, size_t place, const uint32_t *words, size_t words_length,
                            uint32_t *answers, size_t answers_length, size_t *count);
@@ -196,7 +207,7 @@ uint8_t spernevan_evaluate_lent(const uint8_t *file, size_t file_length, size_t 
 
 /*
  * Counts the answers of the query of a place on a database.
- * Takes a file, a place and the database. Returns 0 with their number in `*count`; or 1 to 6 or 15, then 7, 11, 9, or 10 for answers that no buffer can hold.
+ * Takes a file, a place and the database. Returns 0 with their number in `*count`; or 1 to 6, 15 or 18, then 7, 11, 9, or 10 for answers that no buffer can hold.
  */
 uint8_t spernevan_count(const uint8_t *file, size_t file_length, size_t place, const uint32_t *words, size_t words_length, size_t *count);
 

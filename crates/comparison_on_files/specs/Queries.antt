@@ -9,16 +9,15 @@ use Rattle.lists.specs.Over.{over}
 use Rattle.format.specs.Format.{Reading, none, got}
 use Rattle.format.specs.Parts.{query_for}
 use Rattle.format.specs.File.{read_file}
-use Rattle.query.specs.View.{entries_of, as_query, images_of}
+use Rattle.query.specs.View.{as_query}
 use Rattle.query.specs.Rule.{no_cell}
 use Rattle.mapping_words.specs.Images.{mapping_words, images_in}
 use Rattle.comparison.specs.declared.Verdict.{Verdict}
 use Rattle.comparison.specs.declared.Verdict.TheVariants.{Never, Mapped, Apart}
 use Rattle.refusals.specs.declared.Refusal.{Refusal}
-use Rattle.comparison.specs.Comparison.{verdict_reply, pair_refusal, Compared, ComparisonShape}
-use Rattle.theory.specs.Query as theory
+use Rattle.comparison.specs.Comparison.{verdict_reply, pair_refusal, Compared, ComparisonShape, images_at}
 use Rattle.theory.specs.Answer as answer
-use Rattle.minimization.specs.Checking.{maps_to}
+use Rattle.minimization.specs.Checking.{image_at, maps_to}
 use Rattle.lent_numbers.specs.Lent.{returned, leaves}
 
 -- ---- comparing
@@ -73,15 +72,16 @@ pub record CompareGives (file : List ℕ) (p q said : ℕ) (mapping part : List 
 
 -- ---- checking a mapping
 
--- Whether what was read off some words maps S to T: words that stand for no images do not, nor do images with words after them
-abbrev pub reading_maps : theory.Query → theory.Query → Reading (List Cell) → Bool
-reading_maps S T none = false
-reading_maps S T (got images []) = maps_to S T (entries_of images)
-reading_maps S T (got images (word ∷ words)) = false
+-- Whether what was read off some words is a mapping from the query of place q to that of place p, all as they are read through the pairs of codes: words that
+-- stand for no images are none, nor are images with words after them
+abbrev pub reading_maps : Record → ℕ → ℕ → Reading (List Cell) → Bool
+reading_maps r p q none = false
+reading_maps r p q (got images []) = maps_to (query_at r q) (query_at r p) (images_at r q images)
+reading_maps r p q (got images (word ∷ words)) = false
 
--- Whether words are a mapping from the query of place q to that of place p, as they are stored. `WordsMapExact` says what this means
+-- Whether words are such a mapping. `WordsMapExact` says what this means
 abbrev pub words_map : Record → ℕ → ℕ → List ℕ → Bool
-words_map r p q words = reading_maps (query_at r q) (query_at r p) (images_in words)
+words_map r p q words = reading_maps r p q (images_in words)
 
 -- What `spernevan_check` says: a refusal of the file, then of the places, else whether the words are a mapping
 abbrev pub checked_in : List ℕ → ℕ → ℕ → List ℕ → Reply Bool
@@ -91,9 +91,9 @@ checked_in file p q words = read_file file >>= λ r. reply (pair_refusal r p q) 
 abbrev pub bit : Bool → ℕ
 bit b = cond b 1 0
 
--- The words stand for images that are a mapping from the query of place q to that of place p
+-- The words stand for images that are a mapping from the query of place q to that of place p, all as they are read
 abbrev pub WordsMap : Record → ℕ → ℕ → List ℕ → Type 0
-WordsMap r p q words = (images : List Cell) × (images_in words ≡ got images []) × answer.IsMapping (query_at r q) (query_at r p) (images_of images)
+WordsMap r p q words = (images : List Cell) × (images_in words ≡ got images []) × answer.IsMapping (query_at r q) (query_at r p) (image_at (images_at r q images))
 
 -- The test says yes exactly to such words. Proved in `proofs/Checks`
 abbrev pub WordsMapExact : Type 0

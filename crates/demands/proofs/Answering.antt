@@ -1,5 +1,5 @@
 -- Demand 2 from the calls' own contracts. Assumes nothing.
-use mathlib.Core.Path.{◌≡◌, sym, ap, ◌∙◌}
+use mathlib.Core.Path.{◌≡◌, refl, sym, ap, ◌∙◌}
 use mathlib.Core.Logic.{⊎_elim}
 use mathlib.Core.Bool.{true, false}
 use mathlib.Core.List.{List, [], ◌∷◌, ◌++◌}
@@ -20,17 +20,19 @@ use Rattle.lists.proofs.Tests.{below-or-past}
 use Rattle.passes.specs.Evaluated.{answer_words}
 use Rattle.database.specs.Calls.{too_long, evaluation_refusal, place_answers, evaluated, buffer_then}
 use Rattle.admission.proofs.Admitted.{none-asked}
-use Rattle.database.proofs.Meaning.{place-ascending, place-answers}
+use Rattle.database.proofs.Meaning.{place-ascending, place-answers, place-current}
 use Rattle.minimization.specs.Search as search
 use Rattle.record.specs.declared.Outcome.{Outcome}
-use Rattle.std.specs.Prelude.{Result, Err}
+use Rattle.std.specs.Prelude.{Result, Ok, Err}
+use Rattle.comparison.specs.declared.Verdict.{Verdict}
+use Rattle.comparison.specs.declared.Verdict.TheVariants.{Never, Mapped, Apart}
 use Rattle.format.specs.Bytes.{Bytes}
 use Rattle.format.specs.File.{read_file, read_outcome, file_of, shaped}
 use Rattle.writer.specs.Write.{written, after_writing}
 use Rattle.file.proofs.RoundTrip.{written_back, read_back}
 use Rattle.writer.proofs.Writing.{fits-written, written-fits}
 use Rattle.lists.proofs.Over.{over-length}
-use Rattle.demands.specs.Demand2.{Evaluates, FileComesBack, RecordComesBack}
+use Rattle.demands.specs.Demand2.{Decides, Evaluates, FileComesBack, RecordComesBack}
 use native.Mathlib.Nat.{zero-add}
 
 module _ (r : Record) (p q : ℕ) where
@@ -40,6 +42,30 @@ module _ (r : Record) (p q : ℕ) where
       refused-gives
       (compared.verdict
       ∙ ap (λ (o : Option ℕ). reply o (verdict_on (chased_at r p).rows (search.mappable (query_at r q) (chased_at r p)))) accepted)
+
+-- What a comparison answers is decided over the databases that have no old code
+pub decides : (r : Record) (p q : ℕ) (c : Result Verdict Refusal) → Compared r p q c → Decides r p q c
+decides r p q (Ok Never) compared =
+    record {
+      exactly = λ accepted. (λ said D legal t a. compared.contained said D legal.legal.obeys t a, λ within. tt);
+      shown = λ accepted no. absurd (no tt);
+    }
+decides r p q (Ok (Mapped images)) compared =
+    record {
+      exactly = λ accepted. (λ said D legal t a. compared.contained said D legal.legal.obeys t a, λ within. tt);
+      shown = λ accepted no. absurd (no tt);
+    }
+decides r p q (Ok (Apart query)) compared =
+    let example = compared.apart query refl in
+    record {
+      exactly = λ accepted. (λ said. absurd said, λ within. example.no_answer (within _ example.within _ example.answer));
+      shown = λ accepted no. (query, refl, example);
+    }
+decides r p q (Err why) compared =
+    record {
+      exactly = λ accepted. absurd (not-refused r p q why compared accepted);
+      shown = λ accepted no. absurd (not-refused r p q why compared accepted);
+    }
 
 true-false : true ≡ false → ⊥
 true-false e = let z : ◌≡◌ {A = ℕ} 0 1 = cc in omega arith
@@ -66,6 +92,9 @@ evaluates r place words before after a is-a is-after =
       exactly = λ e.
           let k = none-asked r place words (too_long r place words (length before) ∷ []) e in
           place-answers r place words k.0 (filled-inside r place k.2) k.2;
+      current = λ e.
+          let k = none-asked r place words (too_long r place words (length before) ∷ []) e in
+          place-current r place words k.0 (filled-inside r place k.2) k.2;
     }
 
 -- ---- files

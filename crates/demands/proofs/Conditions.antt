@@ -14,6 +14,7 @@ use Rattle.refusals.specs.Refusals.{over_unless, Condition, order, follows, firs
 use Rattle.query.specs.declared.Cell.{Cell}
 use Rattle.query.specs.declared.Dependency.{Dependency}
 use Rattle.query.specs.declared.JoinDependency.{JoinDependency}
+use Rattle.query.specs.declared.CodePair.{CodePair}
 use Rattle.query.specs.Types.{Query}
 use Rattle.record.specs.declared.Record.{Record}
 use Rattle.record.specs.declared.Outcome.{Outcome}
@@ -21,7 +22,7 @@ use Rattle.record_calls.specs.declared.Columns.{Columns}
 use Rattle.record.specs.Calls.{outcome_reply, query_at}
 use Rattle.refusals.specs.declared.Refusal.{Refusal}
 use Rattle.refusals.specs.Refusal.{reply_of}
-use Rattle.record.specs.Calls.{concluded, add_dependency, add_join, put_query}
+use Rattle.record.specs.Calls.{concluded, add_code, add_dependency, add_join, put_query}
 use Rattle.record_calls.specs.Calls.{columns_reply, open_record, drop_query, determined_columns, blank_record}
 use Rattle.comparison.specs.declared.Verdict.{Verdict}
 use Rattle.comparison.specs.Comparison.{pair_refusal, comparison_refusal, verdict_on, chased_at, Compared, CheckedMapping}
@@ -38,7 +39,7 @@ use Rattle.format.proofs.Faults.{first-fault}
 use Rattle.format.proofs.Stretches.{length-stretches}
 use Rattle.writer.specs.Write.{writing_refusal, written, after_writing}
 use Rattle.demands.specs.Demand1.{Meets, NothingToKeep, read_asks}
-use Rattle.demands.specs.Demand1Calls.{OpenMeets, AddMeets, AddJoinMeets, PutMeets, DropMeets, DeterminedMeets, CompareMeets, CheckMeets}
+use Rattle.demands.specs.Demand1Calls.{OpenMeets, AddCodeMeets, AddMeets, AddJoinMeets, PutMeets, DropMeets, DeterminedMeets, CompareMeets, CheckMeets}
 use Rattle.demands.specs.Demand1Calls.{ReduceMeets, TestMeets, EvaluateMeets, CountMeets, ReadMeets, WriteMeets}
 
 -- ---- every call
@@ -76,6 +77,10 @@ concluded-meets conditions numbers asks ordered given after o e =
 pub open-meets : (widths : List ℕ) (o : Outcome) → outcome_reply o ≡ open_record widths → OpenMeets widths o
 unfolding open_record follows
 open-meets widths o e = concluded-meets _ _ refl refl _ _ o e
+
+pub add-code-meets : (r : Record) (p : CodePair) (o : Outcome) → outcome_reply o ≡ add_code r p → AddCodeMeets r p o
+unfolding add_code follows
+add-code-meets r p o e = concluded-meets _ _ refl refl _ _ o e
 
 pub add_meets : (r : Record) (d : Dependency) (o : Outcome) → outcome_reply o ≡ add_dependency r d → AddMeets r d o
 unfolding add_dependency follows
@@ -178,7 +183,7 @@ read-asks : (file : List ℕ) → map (λ (c : Condition). c.1) (read_conditions
 unfolding read_conditions flatten
 read-asks file =
     let parts = stretches (number 2 file - 2) file (drop 10 file) in
-    ap (λ (ns : List ℕ). 1 ∷ 2 ∷ 3 ∷ 4 ∷ 15 ∷ ns)
+    ap (λ (ns : List ℕ). 1 ∷ 2 ∷ 3 ∷ 18 ∷ 4 ∷ 15 ∷ ns)
     (parts-ask (schema_in (part_at file 0)) parts ∙ ap (λ (n : ℕ). flatten (parts_ask n)) (length-stretches (number 2 file - 2) file (drop 10 file)))
 
 read-ordered : (file : List ℕ) → every (λ (ns : List ℕ). follows ns order) (read_asks file) ≡ true

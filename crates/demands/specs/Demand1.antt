@@ -5,6 +5,7 @@
 use Rattle.std.specs.Prelude.{◌≡◌, true, ℕ, ◌-◌, replicate}
 use mathlib.Core.List.{List, [], ◌∷◌, ◌++◌, map, flatten}
 use Rattle.std.proofs.Math.Option.{Option, none, some}
+use Rattle.refusals.specs.Refusals.{bad_code, codes_full}
 use Rattle.refusals.specs.Refusals.{bad_directory, bad_offsets, bad_relations, bad_dependency, bad_query, unsafe_head, no_such_place, heads_differ, bad_database}
 use Rattle.refusals.specs.Refusals.{buffer_too_short, place_vacant, place_filled, dependencies_full, bad_record, bad_join, joins_full, too_many_rows}
 use Rattle.refusals.specs.Refusals.{Condition, order, follows, first_holding}
@@ -36,6 +37,10 @@ NothingToKeep = Unit {0}
 -- Opening a record
 abbrev pub open_asks : List ℕ
 open_asks = bad_relations ∷ []
+
+-- Adding a pair of codes
+abbrev pub add_code_asks : List ℕ
+add_code_asks = bad_record ∷ bad_code ∷ codes_full ∷ []
 
 -- Adding a functional dependency
 abbrev pub add_asks : List ℕ
@@ -84,4 +89,4 @@ write_asks = bad_record ∷ buffer_too_short ∷ []
 -- Reading a file: the directory's faults, then those of each part in file order
 abbrev pub read_asks : List ℕ → List (List ℕ)
 read_asks file =
-    (bad_directory ∷ bad_offsets ∷ []) ∷ (bad_relations ∷ []) ∷ (bad_dependency ∷ bad_join ∷ []) ∷ replicate (number 2 file - 2) (bad_query ∷ unsafe_head ∷ [])
+    (bad_directory ∷ bad_offsets ∷ []) ∷ (bad_relations ∷ bad_code ∷ []) ∷ (bad_dependency ∷ bad_join ∷ []) ∷ replicate (number 2 file - 2) (bad_query ∷ unsafe_head ∷ [])

@@ -5,27 +5,28 @@ use Rattle.refusals.specs.Refusals.{gives, refusal_in}
 use Rattle.query.specs.declared.Cell.{Cell}
 use Rattle.query.specs.declared.Dependency.{Dependency}
 use Rattle.query.specs.declared.JoinDependency.{JoinDependency}
+use Rattle.query.specs.declared.CodePair.{CodePair}
 use Rattle.query.specs.Types.{Query}
-use Rattle.query.specs.View.{entries_of, mask_of}
+use Rattle.query.specs.View.{mask_of}
 use Rattle.query.specs.Rule.{no_cell, no_place, place_with}
 use Rattle.record.specs.declared.Record.{Record}
 use Rattle.record.specs.declared.Outcome.{Outcome}
 use Rattle.record_calls.specs.declared.Columns.{Columns}
-use Rattle.record.specs.View.{schema_of, dependencies_of, joins_of}
+use Rattle.record.specs.View.{schema_of, codes_of, dependencies_of, joins_of}
 use Rattle.record_calls.specs.Calls.{blank_record, empty_record, columns_reply, determined_at, open_conditions, drop_conditions, determined_conditions}
 use Rattle.record.specs.Calls.{with_place, query_at}
 use Rattle.refusals.specs.declared.Refusal.{Refusal}
 use Rattle.refusals.specs.Refusal.{reply_of}
-use Rattle.record.specs.Calls.{with_dependency, with_join}
-use Rattle.record.specs.Calls.{add_conditions, add_join_conditions, put_conditions}
+use Rattle.record.specs.Calls.{with_code, with_dependency, with_join}
+use Rattle.record.specs.Calls.{add_code_conditions, add_conditions, add_join_conditions, put_conditions}
 use Rattle.comparison.specs.declared.Verdict.{Verdict}
-use Rattle.comparison.specs.Comparison.{pair_conditions, comparison_conditions, verdict_reply, Compared}
+use Rattle.comparison.specs.Comparison.{pair_conditions, comparison_conditions, verdict_reply, images_at, Compared}
 use Rattle.reduction.specs.declared.Reduced.{Reduced}
 use Rattle.reduction.specs.Reduced.{reduction_conditions, IsReduced}
 use Rattle.words.specs.declared.Violation.{Violation}
 use Rattle.admission.specs.Conditions.{test_conditions}
 use Rattle.database.specs.Calls.{evaluation_conditions, place_answers, longest_buffer}
-use Rattle.words.specs.Words.{database_of}
+use Rattle.words.specs.Words.{database_read}
 use Rattle.join_testing.specs.Unmet.{violation_in}
 use Rattle.passes.specs.Evaluated.{answer_words}
 use Rattle.lists.specs.Over.{over}
@@ -33,7 +34,7 @@ use Rattle.format.specs.File.{read_file, file_of}
 use Rattle.format.specs.Faults.{read_conditions}
 use Rattle.writer.specs.Write.{write_conditions}
 use Rattle.minimization.specs.Checking.{maps_to}
-use Rattle.demands.specs.Demand1.{Meets, NothingToKeep, open_asks, add_asks, add_join_asks, put_asks, drop_asks, determined_asks, pair_asks, compare_asks, reduce_asks}
+use Rattle.demands.specs.Demand1.{Meets, NothingToKeep, open_asks, add_code_asks, add_asks, add_join_asks, put_asks, drop_asks, determined_asks, pair_asks, compare_asks, reduce_asks}
 use Rattle.demands.specs.Demand1.{test_asks, evaluate_asks, write_asks, read_asks}
 
 -- ---- the calls on the record alone
@@ -43,6 +44,10 @@ abbrev pub OpenMeets : List ℕ → Outcome → Type 0
 OpenMeets widths o =
     Meets (open_conditions widths) (open_asks ∷ []) (refusal_in (reply_of o.answer)) (o.«record» ≡ blank_record)
     (o.«record» ≡ empty_record (length widths) (widths ++ replicate (8 - length widths) 0))
+
+-- Adding a pair of codes
+abbrev pub AddCodeMeets : Record → CodePair → Outcome → Type 0
+AddCodeMeets r p o = Meets (add_code_conditions r p) (add_code_asks ∷ []) (refusal_in (reply_of o.answer)) (o.«record» ≡ r) (o.«record» ≡ with_code r p)
 
 -- Adding a functional dependency
 abbrev pub AddMeets : Record → Dependency → Outcome → Type 0
@@ -77,7 +82,7 @@ CompareMeets r p q c = Meets (comparison_conditions r p q) (compare_asks ∷ [])
 -- Checking a mapping
 abbrev pub CheckMeets : Record → ℕ → ℕ → List Cell → Result Bool Refusal → Type 0
 CheckMeets r p q images c =
-    Meets (pair_conditions r p q) (pair_asks ∷ []) (refusal_in (reply_of c)) NothingToKeep (reply_of c ≡ gives (maps_to (query_at r q) (query_at r p) (entries_of images)))
+    Meets (pair_conditions r p q) (pair_asks ∷ []) (refusal_in (reply_of c)) NothingToKeep (reply_of c ≡ gives (maps_to (query_at r q) (query_at r p) (images_at r q images)))
 
 -- Reducing: what is due leaves free only which mapping is returned
 abbrev pub ReduceMeets : Record → ℕ → ℕ → Reduced → Type 0
@@ -91,7 +96,7 @@ ReduceMeets r source target o =
 abbrev pub TestMeets : Record → List ℕ → Result (Maybe Violation) Refusal → Type 0
 TestMeets r words v =
     Meets (test_conditions r words) (test_asks ∷ []) (refusal_in (reply_of v)) NothingToKeep
-    (reply_of v ≡ gives (violation_in (schema_of r) (dependencies_of r) (joins_of r) (database_of (schema_of r) words)))
+    (reply_of v ≡ gives (violation_in (schema_of r) (dependencies_of r) (joins_of r) (database_read (codes_of r) (schema_of r) words)))
 
 -- Evaluating a place
 abbrev pub EvaluateMeets : Record → ℕ → List ℕ → List ℕ → List ℕ → Result ℕ Refusal → Type 0

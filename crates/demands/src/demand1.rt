@@ -1,11 +1,11 @@
 // Demand 1: every call is refused in the order of refusals and then hands back what it was given; otherwise it leaves what is due.
 ghost use Rattle.admission.specs.Conditions.{test_conditions, search_conditions};
 ghost use Rattle.database.specs.Calls.{UnusedIfRefused};
-ghost use Rattle.demands.specs.Demand1Calls.{OpenMeets, AddMeets, AddJoinMeets, PutMeets, DropMeets, DeterminedMeets, CompareMeets, CheckMeets, ReduceMeets};
+ghost use Rattle.demands.specs.Demand1Calls.{OpenMeets, AddCodeMeets, AddMeets, AddJoinMeets, PutMeets, DropMeets, DeterminedMeets, CompareMeets, CheckMeets, ReduceMeets};
 ghost use Rattle.demands.specs.Demand1Calls.{TestMeets, EvaluateMeets, CountMeets, ReadMeets, WriteMeets};
 
 use comparison::Verdict;
-use query::{Cell, Dependency, JoinDependency, Query};
+use query::{Cell, CodePair, Dependency, JoinDependency, Query};
 use record::{Outcome, Record};
 use record_calls::Columns;
 use reduction::Reduced;
@@ -19,6 +19,13 @@ pub fn open(widths: &[u8]) -> Outcome
     ensures { OpenMeets widths.now result }
 {
     record_calls::open(widths)
+}
+
+// Adds a pair of codes.
+pub fn add_code(given: Record, p: CodePair) -> Outcome
+    ensures { AddCodeMeets given p result }
+{
+    given.add_code(p)
 }
 
 // Adds a functional dependency.

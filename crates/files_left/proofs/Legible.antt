@@ -13,6 +13,7 @@ use Rattle.query.specs.declared.Cell.{Cell}
 use Rattle.query.specs.Types.{Query}
 use Rattle.query.specs.declared.Dependency.{Dependency}
 use Rattle.query.specs.declared.JoinDependency.{JoinDependency}
+use Rattle.query.specs.declared.CodePair.{CodePair}
 use Rattle.query.specs.declared.Place.{Place}
 use Rattle.record.specs.declared.Record.{Record}
 use Rattle.record.specs.View.{schema_of}
@@ -26,11 +27,11 @@ use Rattle.refusals.specs.Refusal.{number_of}
 use Rattle.refusals.specs.Refusals.{◌>>=◌, bad_query, buffer_too_short, too_many_rows, first_holding, gives, refused, reply, Reply}
 use Rattle.record.specs.Calls.{query_at, concluded, broken_record, unknown_place, vacant, filled}
 use Rattle.record.specs.Calls.{with_place, with_dependency, add_dependency, put_query}
-use Rattle.record.specs.Calls.{with_join, add_join_conditions, add_join}
+use Rattle.record.specs.Calls.{with_code, add_code_conditions, add_code, with_join, add_join_conditions, add_join}
 use Rattle.refusals.proofs.Refusals.{none-holds, refused-gives}
 use Rattle.lists.proofs.Tests.{and_left, and_right, every_set}
 use Rattle.record.proofs.Good.{good-record}
-use Rattle.record.proofs.Meaning.{add-keeps, add-join-keeps, put_keeps}
+use Rattle.record.proofs.Meaning.{add-code-keeps, add-keeps, add-join-keeps, put_keeps}
 use Rattle.lists.specs.Over.{over}
 use Rattle.lists.proofs.Over.{length-pad}
 use Rattle.query.proofs.Good.{good-join}
@@ -56,7 +57,7 @@ use Rattle.lent_numbers.specs.Lent.{returned, fitted, Wrote}
 use Rattle.record_on_files.specs.Records.{result_of, file_fitted, join_with, put_part}
 use Rattle.reduction_on_files.specs.Shortening.{ReductionGiven, Reducing}
 use Rattle.comparison_on_files.specs.Queries.{comparison_fits, ComparisonGiven, Comparing}
-use Rattle.files_left.specs.Legible.{FileLeft, WriteLeft, OpenLeft, AddLeft, AddJoinLeft, PutLeft, DropLeft, ReduceLeft, CompareLeft}
+use Rattle.files_left.specs.Legible.{FileLeft, WriteLeft, OpenLeft, AddCodeLeft, AddLeft, AddJoinLeft, PutLeft, DropLeft, ReduceLeft, CompareLeft}
 use Rattle.lent_numbers.proofs.Lent.{goes_on}
 use Rattle.comparison_on_files.proofs.Verdicts.{comparison-apart, comparison-contained, comparison-never, comparison-refused}
 
@@ -104,9 +105,9 @@ read_whole : (file : List ℕ) → Bytes file → (r : Record) → read_file fil
 read_whole file hb r e = let k = file-written-back file r hb e in (k.0, k.1)
 
 -- A record's arrays, one by one
-shaped_from : (r : Record) → length r.widths ≡ 8 → length r.dependencies ≡ 32 → length r.joins ≡ 4 → every shaped_join r.joins ≡ true
+shaped_from : (r : Record) → length r.widths ≡ 8 → length r.codes ≡ 16 → length r.dependencies ≡ 32 → length r.joins ≡ 4 → every shaped_join r.joins ≡ true
     → length r.places ≡ 8 → every (λ p. shaped_query p.query) r.places ≡ true → shaped r ≡ true
-shaped_from r w d j s p q = rw (w, d, j, s, p, q)
+shaped_from r w c d j s p q = rw (w, c, d, j, s, p, q)
 
 -- no test but one can refuse, and it did not
 unrefused : (fit : Bool) → cond {A = Option ℕ} (not fit) (some 3) none ≡ none → fit ≡ true
@@ -123,33 +124,43 @@ open-shaped widths e =
     let most = leb-true (length widths) 8 (and_right (leb 1 (length widths)) (leb (length widths) 8)
     (and_left few (every (between 1 8) widths) (unrefused fit clear))) in
     let long : length (widths ++ replicate (8 - length widths) 0) ≡ 8 = rw (length-append, length-replicate) (omega arith) in
-    shaped_from (empty_record (length widths) (widths ++ replicate (8 - length widths) 0)) long refl refl refl refl refl)
+    shaped_from (empty_record (length widths) (widths ++ replicate (8 - length widths) 0)) long refl refl refl refl refl refl)
 
 module _ (r : Record) (w : Whole r) where
   queries : every (λ p. shaped_query p.query) r.places ≡ true
   queries =
       and_right
-      (eqb (length r.widths) 8 && eqb (length r.dependencies) 32 && eqb (length r.joins) 4 && every shaped_join r.joins
+      (eqb (length r.widths) 8 && eqb (length r.codes) 16 && eqb (length r.dependencies) 32 && eqb (length r.joins) 4 && every shaped_join r.joins
       && eqb (length r.places) 8)
       (every (λ p. shaped_query p.query) r.places) w.1
+
+  code-shaped : (p : CodePair) → shaped (with_code r p) ≡ true
+  code-shaped p =
+      let k = sound-record r w.0 w.1 in
+      shaped_from (with_code r p) k.widths-long (length-set r.codes r.coded p ∙ k.codes-long) k.dependencies-long k.joins_long k.sets-long
+      k.places-long queries
 
   dependency-shaped : (d : Dependency) → shaped (with_dependency r d) ≡ true
   dependency-shaped d =
       let k = sound-record r w.0 w.1 in
-      shaped_from (with_dependency r d) k.widths-long (length-set r.dependencies r.held d ∙ k.dependencies-long) k.joins_long k.sets-long
+      shaped_from (with_dependency r d) k.widths-long k.codes-long (length-set r.dependencies r.held d ∙ k.dependencies-long) k.joins_long k.sets-long
       k.places-long queries
 
   join-shaped : (j : JoinDependency) → shaped_join j ≡ true → shaped (with_join r j) ≡ true
   join-shaped j s =
       let k = sound-record r w.0 w.1 in
-      shaped_from (with_join r j) k.widths-long k.dependencies-long (length-set r.joins r.joined j ∙ k.joins_long)
+      shaped_from (with_join r j) k.widths-long k.codes-long k.dependencies-long (length-set r.joins r.joined j ∙ k.joins_long)
       (every_set shaped_join r.joins r.joined j k.sets-long s) k.places-long queries
 
   place-shaped : (place : ℕ) (p : Place) → shaped_query p.query ≡ true → shaped (with_place r place p) ≡ true
   place-shaped place p s =
       let k = sound-record r w.0 w.1 in
-      shaped_from (with_place r place p) k.widths-long k.dependencies-long k.joins_long k.sets-long (length-set r.places place p ∙ k.places-long)
+      shaped_from (with_place r place p) k.widths-long k.codes-long k.dependencies-long k.joins_long k.sets-long (length-set r.places place p ∙ k.places-long)
       (every_set (λ p. shaped_query p.query) r.places place p queries s)
+
+  add-code-shaped : (p : CodePair) → (add_code r p).0 ≡ gives tt → shaped (add_code r p).1 ≡ true
+  unfolding add_code
+  add-code-shaped p e = concluded-shaped (first_holding (add_code_conditions r p)) r (with_code r p) e (λ _. code-shaped p)
 
   add-shaped : (d : Dependency) → (add_dependency r d).0 ≡ gives tt → shaped (add_dependency r d).1 ≡ true
   unfolding add_dependency
@@ -233,6 +244,12 @@ add_left file hb relation left right =
     let d : Dependency = record { relation = relation; left = left; right = right } in
     after_read file hb (λ r. result_of (add_dependency r d))
     (λ r after w e. outcome-whole (add_dependency r d) after e (λ a. (add-keeps r d (sound-record r w.0 w.1).dependencies-long a, add-shaped r w d a)))
+
+pub add-code-left : AddCodeLeft
+add-code-left file hb old current =
+    let p : CodePair = record { old = old; current = current } in
+    after_read file hb (λ r. result_of (add_code r p))
+    (λ r after w e. outcome-whole (add_code r p) after e (λ a. (add-code-keeps r p (sound-record r w.0 w.1).codes-long a, add-code-shaped r w p a)))
 
 pub add-join-left : AddJoinLeft
 add-join-left file hb relation sets =

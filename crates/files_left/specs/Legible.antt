@@ -7,7 +7,7 @@ use Rattle.query.specs.Types.{Query}
 use Rattle.record.specs.declared.Record.{Record}
 use Rattle.record.specs.View.{schema_of}
 use Rattle.query.specs.View.{query_of}
-use Rattle.record.specs.Calls.{add_dependency, add_join}
+use Rattle.record.specs.Calls.{add_code, add_dependency, add_join}
 use Rattle.record_calls.specs.Calls.{open_record, drop_query}
 use Rattle.format.specs.Bytes.{Bytes}
 use Rattle.refusals.specs.Refusals.{Reply, gives, ◌>>=◌}
@@ -18,7 +18,7 @@ use Rattle.comparison.specs.Comparison.{chased_at, pair_refusal}
 use Rattle.reduction.specs.declared.Reduced.{Reduced}
 use Rattle.reduction.specs.Reduced.{reduction_refusal, IsReduced}
 use Rattle.lent_numbers.specs.Lent.{Wrote}
-use Rattle.record_on_files.specs.Records.{result_of, copied, opened, added, join_with, added_join, put_part, put_in, dropped}
+use Rattle.record_on_files.specs.Records.{result_of, copied, opened, added_code, added, join_with, added_join, put_part, put_in, dropped}
 use Rattle.reduction_on_files.specs.Shortening.{ReduceGives}
 use Rattle.comparison_on_files.specs.Queries.{CompareGives}
 
@@ -41,6 +41,12 @@ abbrev pub AddLeft : Type 0
 AddLeft =
     (file : List ℕ) → Bytes file → (relation left right : ℕ)
     → FileLeft (read_file file >>= λ r. result_of (add_dependency r (record { relation = relation; left = left; right = right }))) (added file relation left right)
+
+-- With a pair of codes added
+abbrev pub AddCodeLeft : Type 0
+AddCodeLeft =
+    (file : List ℕ) → Bytes file → (old current : ℕ)
+    → FileLeft (read_file file >>= λ r. result_of (add_code r (record { old = old; current = current }))) (added_code file old current)
 
 -- With a join dependency added
 abbrev pub AddJoinLeft : Type 0

@@ -6,7 +6,7 @@
 ghost use Rattle.std.specs.Prelude.{◌≡◌, length};
 ghost use Rattle.format.specs.File.{read_file};
 ghost use Rattle.lent_numbers.specs.Lent.{returned, leaves, Wrote};
-ghost use Rattle.record_on_files.specs.Records.{copied, opened, added, added_join, put_in, dropped, determined_in};
+ghost use Rattle.record_on_files.specs.Records.{copied, opened, added_code, added, added_join, put_in, dropped, determined_in};
 ghost use Rattle.reduction_on_files.specs.Shortening.{ReduceGives};
 ghost use Rattle.comparison_on_files.specs.Queries.{CompareGives, checked_in, bit};
 ghost use Rattle.admission.specs.Conditions.{test_conditions, search_conditions};
@@ -40,6 +40,20 @@ pub extern "C" fn spernevan_open(widths: &[u8], out: &mut [u8], size: &mut usize
     ensures { Wrote (opened widths.now (length out.old)) out.old size.old result out.new size.new }
 {
     number_of(record_on_files::open_file(widths, out, size))
+}
+
+// Adds a pair of codes, an old one and the one that it has now, after those held.
+#[unsafe(no_mangle)]
+pub extern "C" fn spernevan_add_code(
+    file: &[u8],
+    old: u32,
+    current: u32,
+    out: &mut [u8],
+    size: &mut usize,
+) -> u8
+    ensures { Wrote (added_code file.now old current (length out.old)) out.old size.old result out.new size.new }
+{
+    number_of(record_on_files::add_code_in_file(file, old, current, out, size))
 }
 
 // Adds a functional dependency after those held.

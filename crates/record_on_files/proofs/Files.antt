@@ -64,6 +64,12 @@ module _ (file : List ℕ) (bytes : (i : ℕ) → get_or file i 0 < 256) (r : Re
   pub read-good : good_record r ≡ true
   read-good = back.0
 
+  -- and has room for 16 pairs of codes
+  pub read-codes-long : length r.codes ≡ 16
+  read-codes-long =
+      let k = file-written-back file r (bytes-known file bytes) (sym read) in
+      (sound-record r k.0 k.1).codes-long
+
   -- and has room for 32 dependencies
   pub read-long : length r.dependencies ≡ 32
   read-long =

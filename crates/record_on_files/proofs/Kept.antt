@@ -10,17 +10,18 @@ use Rattle.refusals.proofs.Refusals.{refused-gives}
 use Rattle.query.specs.Types.{Query}
 use Rattle.query.specs.declared.Dependency.{Dependency}
 use Rattle.query.specs.declared.JoinDependency.{JoinDependency}
+use Rattle.query.specs.declared.CodePair.{CodePair}
 use Rattle.query.specs.declared.Place.{Place}
 use Rattle.record.specs.declared.Record.{Record}
 use Rattle.record.specs.declared.Outcome.{Outcome}
 use Rattle.record.specs.View.{schema_of}
 use Rattle.record.specs.Rule.{good_record}
-use Rattle.record.specs.Calls.{outcome_reply, add_dependency, add_join, put_query}
+use Rattle.record.specs.Calls.{outcome_reply, add_code, add_dependency, add_join, put_query}
 use Rattle.refusals.specs.Refusal.{reply_of}
 use Rattle.record_calls.specs.Calls.{open_record, drop_query}
 use Rattle.record_calls.proofs.Meaning.{open-keeps, drop_keeps}
 use Rattle.record.specs.Meaning.{LeavesGood}
-use Rattle.record.proofs.Meaning.{add-keeps, add-join-keeps, put_keeps}
+use Rattle.record.proofs.Meaning.{add-code-keeps, add-keeps, add-join-keeps, put_keeps}
 use Rattle.record.proofs.Outcomes.{join-unfit}
 use Rattle.parsing.proofs.Joins.{many-sets}
 use Rattle.format.specs.File.{read_place}
@@ -43,6 +44,9 @@ pub open-sound : (widths : List ℕ) (o : Outcome) → outcome_reply o ≡ open_
 open-sound widths o e = says-sound o (open_record widths) e (open-keeps widths)
 
 module _ (r : Record) (good : good_record r ≡ true) where
+  pub code-sound : (p : CodePair) (o : Outcome) → length r.codes ≡ 16 → outcome_reply o ≡ add_code r p → GoodIfDone o
+  code-sound p o long e = says-sound o (add_code r p) e (add-code-keeps r p long)
+
   pub add-sound : (d : Dependency) (o : Outcome) → length r.dependencies ≡ 32 → outcome_reply o ≡ add_dependency r d → GoodIfDone o
   add-sound d o long e = says-sound o (add_dependency r d) e (add-keeps r d long)
 

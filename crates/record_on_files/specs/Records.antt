@@ -6,7 +6,7 @@ use Rattle.lists.specs.Over.{pad}
 use Rattle.query.specs.declared.JoinDependency.{JoinDependency}
 use Rattle.record.specs.declared.Record.{Record}
 use Rattle.record.specs.View.{schema_of}
-use Rattle.record.specs.Calls.{add_dependency, add_join, put_query}
+use Rattle.record.specs.Calls.{add_code, add_dependency, add_join, put_query}
 use Rattle.record_calls.specs.Calls.{open_record, drop_query, determined_columns}
 use Rattle.format.specs.File.{read_place, read_file, file_of}
 use Rattle.lent_numbers.specs.Lent.{fitted}
@@ -26,6 +26,10 @@ copied file room = read_file file >>= λ _. fitted room file
 -- The file of a record opened from relation widths
 abbrev pub opened : List ℕ → ℕ → Reply (List ℕ)
 opened widths room = file_fitted room (result_of (open_record widths))
+
+-- The file with a pair of codes added
+abbrev pub added_code : List ℕ → ℕ → ℕ → ℕ → Reply (List ℕ)
+added_code file old current room = file_fitted room (read_file file >>= λ r. result_of (add_code r (record { old = old; current = current })))
 
 -- The file with a functional dependency added
 abbrev pub added : List ℕ → ℕ → ℕ → ℕ → ℕ → Reply (List ℕ)

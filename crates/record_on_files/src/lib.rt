@@ -9,11 +9,11 @@ ghost use Rattle.record.specs.Calls.{outcome_reply, add_join};
 ghost use Rattle.format.specs.File.{file_of, read_file};
 ghost use Rattle.refusals.specs.Refusal.{reply_of};
 ghost use Rattle.lent_numbers.specs.Lent.{fitted, returned, leaves, Wrote};
-ghost use Rattle.record_on_files.specs.Records.{result_of, file_fitted, join_with, put_part, copied, opened, added, added_join, put_in, dropped, determined_in};
+ghost use Rattle.record_on_files.specs.Records.{result_of, file_fitted, join_with, put_part, copied, opened, added_code, added, added_join, put_in, dropped, determined_in};
 ghost use Rattle.record_on_files.specs.internal.Steps.{GoodIfDone};
 
 use lent_numbers::{leave_columns, leave_count};
-use query::{Dependency, JoinDependency};
+use query::{CodePair, Dependency, JoinDependency};
 use record::calls::refused;
 use record::{Outcome, Record};
 use refusals::Refusal;
@@ -94,6 +94,20 @@ pub fn open_file(widths: &[u8], out: &mut [u8], size: &mut usize) -> Result<(), 
     ensures { Wrote (opened widths.now (length out.old)) out.old size.old (returned (reply_of result)) out.new size.new }
 {
     store_outcome(record_calls::open(widths), out, size)
+}
+
+// Adds a pair of codes, an old one and the one that it has now, after those held.
+pub fn add_code_in_file(
+    file: &[u8],
+    old: u32,
+    current: u32,
+    out: &mut [u8],
+    size: &mut usize,
+) -> Result<(), Refusal>
+    ensures { Wrote (added_code file.now old current (length out.old)) out.old size.old (returned (reply_of result)) out.new size.new }
+{
+    let given = file::read_record(file)?;
+    store_outcome(given.add_code(CodePair { old, current }), out, size)
 }
 
 // Adds a functional dependency after those held.
