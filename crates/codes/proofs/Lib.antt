@@ -1,3 +1,3 @@
--- Laws of marks (Marks), and of reading the cells of a stored query (Reading).
-pub mod Marks
+-- Where pairs are looked for (Found), and the cells of a stored query as they are read (Reading).
+pub mod Found
 pub mod Reading

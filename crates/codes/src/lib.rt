@@ -20,14 +20,16 @@ impl Codes {
         requires { length pairs.now ≤ 16 }
         ensures { codes_in result ≡ map pair_of pairs.now }
     {
-        let mut marked = [false; 64];
-        for p in pairs {
-            marked[(p.old % 64) as usize] = true;
+        let count = pairs.len();
+        let mut firsts = [count as u8; 256];
+        for (i, p) in pairs.iter().enumerate() {
+            let k = (p.old % 256) as usize;
+            firsts[k] = firsts[k].min(i as u8);
         }
         Codes {
-            count: pairs.len(),
+            count,
             pairs: chains::padded(pairs, NO_CODE_PAIR),
-            marked,
+            firsts,
         }
     }
 
@@ -35,10 +37,8 @@ impl Codes {
     pub fn read(&self, n: u32) -> u32
         ensures { result ≡ read_code (codes_in self.now) n }
     {
-        if !self.marked[(n % 64) as usize] {
-            return n;
-        }
-        for p in &self.pairs[..self.count] {
+        let first = self.firsts[(n % 256) as usize] as usize;
+        for p in &self.pairs[first..self.count] {
             if n == p.old {
                 return p.current;
             }
