@@ -10,6 +10,7 @@ use Rattle.refusals.specs.Refusals.{gives}
 use Rattle.refusals.proofs.Refusals.{reply-gives, refused-gives}
 use Rattle.refusals.specs.Refusal.{number_of}
 use Rattle.refusals.proofs.Numbered.{number-same}
+use Rattle.theory.specs.Codes.{read_code}
 use Rattle.theory.specs.Query.{member}
 use Rattle.theory.specs.Answer.{IsMapping}
 use Rattle.theory.specs.Chase.{chase}
@@ -142,5 +143,5 @@ outcome-means r p outcome good shaped =
     (good-joins-fit (schema_of r) r.joined r.joins shaped (joins-good r good))
 
 pub images-example : ImagesExample
-unfolding read_images member
+unfolding read_images member read_code
 images-example = refl
