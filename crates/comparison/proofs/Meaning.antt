@@ -10,6 +10,8 @@ use Rattle.refusals.specs.Refusals.{gives}
 use Rattle.refusals.proofs.Refusals.{reply-gives, refused-gives}
 use Rattle.refusals.specs.Refusal.{number_of}
 use Rattle.refusals.proofs.Numbered.{number-same}
+use Rattle.theory.specs.Codes.{read_code}
+use Rattle.theory.specs.Query.{member}
 use Rattle.theory.specs.Answer.{IsMapping}
 use Rattle.theory.specs.Chase.{chase}
 use Rattle.theory.specs.Database.{JoinDependency}
@@ -29,8 +31,8 @@ use Rattle.comparison.specs.declared.Verdict.{Verdict}
 use Rattle.comparison.specs.declared.Verdict.TheVariants as verdict
 use Rattle.std.specs.Prelude.{Result, Ok, Err, Bool, true, false}
 use Rattle.refusals.specs.declared.Refusal.{Refusal}
-use Rattle.comparison.specs.Comparison.{pair_refusal, comparison_refusal, not_contained, verdict_reply, verdict_of, images_at, Compared, ComparisonShape, CheckedMapping}
-use Rattle.comparison.specs.Meaning.{CheckMeans, CheckDenies, ComparedOnce, FunctionalAlone, OutcomeMeans}
+use Rattle.comparison.specs.Comparison.{pair_refusal, comparison_refusal, not_contained, verdict_reply, verdict_of, images_at, read_images, Compared, ComparisonShape, CheckedMapping}
+use Rattle.comparison.specs.Meaning.{ImagesExample, CheckMeans, CheckDenies, ComparedOnce, FunctionalAlone, OutcomeMeans}
 use Rattle.comparison.proofs.Pairs.{standing, compare-stands}
 use Rattle.comparison.proofs.Answers.{joins-good}
 use Rattle.comparison.proofs.Checks.{checked_refused, checked-decided}
@@ -139,3 +141,7 @@ pub outcome-means : OutcomeMeans
 outcome-means r p outcome good shaped =
     join-chase-computes (schema_of r) (dependencies_of r) (joins_of r) 24 (query_at r p) outcome
     (good-joins-fit (schema_of r) r.joined r.joins shaped (joins-good r good))
+
+pub images-example : ImagesExample
+unfolding read_images member read_code
+images-example = refl

@@ -1,6 +1,7 @@
 -- What the promises of the two calls come to. Each statement is proved in `proofs/Meaning`.
-use Rattle.std.specs.Prelude.{Result, Ok, Bool, true, false, ◌≡◌, ◌↔◌, ◌⊎◌, List, ℕ}
+use Rattle.std.specs.Prelude.{Result, Ok, Bool, true, false, ◌≡◌, ◌↔◌, ◌⊎◌, List, [], ◌∷◌, ℕ}
 use Rattle.std.proofs.Math.Option.{none}
+use Rattle.theory.specs.Query.{constant}
 use Rattle.theory.specs.Answer.{IsMapping}
 use Rattle.theory.specs.Chase.{chase}
 use Rattle.lists.specs.Tests.{every}
@@ -15,7 +16,7 @@ use Rattle.record.specs.Calls.{query_at}
 use Rattle.comparison.specs.declared.Verdict.{Verdict}
 use Rattle.comparison.specs.declared.Verdict.TheVariants.{Mapped}
 use Rattle.refusals.specs.declared.Refusal.{Refusal}
-use Rattle.comparison.specs.Comparison.{pair_refusal, outcome_at, images_at, Compared, ComparisonShape, CheckedMapping}
+use Rattle.comparison.specs.Comparison.{pair_refusal, outcome_at, images_at, read_images, Compared, ComparisonShape, CheckedMapping}
 
 -- Checking says yes exactly when the two places are not refused and the images are a mapping from q's query to p's, all as they are read. A mapping takes
 -- each variable that q's query does not have to constant 0
@@ -46,3 +47,13 @@ abbrev pub OutcomeMeans : Type 0
 OutcomeMeans =
     (r : Record) (p : ℕ) (outcome : Outcome) → good_record r ≡ true → every shaped_join r.joins ≡ true
     → JoinChases (schema_of r) (dependencies_of r) (joins_of r) 24 (query_at r p) outcome ↔ (outcome_at r p ≡ outcome)
+
+-- Where 0 became 7 and 5 became 8: of a query with variables 1, 2 and 4 the images of these are read. That of variable 0 is not, nor that of 3, and there is none past the end
+abbrev pub ImagesExample : Type 0
+ImagesExample =
+    read_images
+    (record { old = 0; current = 7 } ∷ record { old = 5; current = 8 } ∷ [])
+    (2 ∷ 1 ∷ 4 ∷ [])
+    0
+    (constant 0 ∷ constant 0 ∷ constant 5 ∷ constant 5 ∷ [])
+    ≡ constant 0 ∷ constant 7 ∷ constant 8 ∷ constant 5 ∷ []

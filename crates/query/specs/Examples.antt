@@ -1,5 +1,5 @@
 -- Examples of the views and of the rule, at the edge of each limit one value that passes and one that doesn't. `proofs/Examples` proves them by computation.
-use Rattle.std.specs.Prelude.{◌≡◌, Bool, true, false, not, List, [], ◌∷◌, ◌++◌, map, ℕ, length, replicate}
+use Rattle.std.specs.Prelude.{◌≡◌, Bool, true, false, not, List, [], ◌∷◌, ◌++◌, map, ℕ, zero, suc, length, replicate}
 use Rattle.theory.specs.Query as theory
 use Rattle.lists.specs.Tests.{every}
 use Rattle.lists.specs.Over.{pad}
@@ -10,9 +10,11 @@ use Rattle.query.specs.Types.{Query}
 use Rattle.query.specs.Types.{Tableau}
 use Rattle.query.specs.declared.Dependency.{Dependency}
 use Rattle.query.specs.declared.JoinDependency.{JoinDependency}
-use Rattle.query.specs.View.{entries_of, query_of, as_query, columns_of, mask_of, dependency_of, held_of, join_of, held_joins, images_of}
+use Rattle.query.specs.declared.CodePair.{CodePair}
+use Rattle.query.specs.View.{entries_of, query_of, as_query, columns_of, mask_of, dependency_of, held_of, join_of, held_joins, pair_of, held_codes, images_of}
 use Rattle.query.specs.Rule.{blank_cell, blank_dependency, blank_query, good_relations, good_set, good_dependency, good_dependencies, good_cell, good_query}
 use Rattle.query.specs.Rule.{blank_join, good_join, good_joins, good_tableau, shaped_query, shaped_tableau, shaped_join, no_join, never_tableau, no_tableau}
+use Rattle.query.specs.Rule.{good_pair, pair_fits, good_codes, blank_pair, no_pair}
 use Rattle.query.specs.Rule.{head_safe, good_place, no_cell, no_dependency, no_query, never_query, no_place, place_with}
 
 -- ---- values for the examples
@@ -68,6 +70,15 @@ depends left right = record { relation = 0; left = left; right = right }
 abbrev pub joins : List ℕ → JoinDependency
 joins sets = record { relation = 0; count = length sets; sets = pad 4 0 sets }
 
+-- The pair of an old code and its current one
+abbrev pub renumbered : ℕ → ℕ → CodePair
+renumbered old current = record { old = old; current = current }
+
+-- So many pairs: the old codes are those from a start on, the current one is always 99
+unfoldable pub renumbered_from : ℕ → ℕ → List CodePair
+renumbered_from zero old = []
+renumbered_from (suc n) old = renumbered old 99 ∷ renumbered_from n (suc old)
+
 -- ---- the views
 
 -- What stored values stand for
@@ -98,6 +109,9 @@ pub record Views : Type 0 where
   -- column 0, and columns 0 and 1; of two join dependencies the first is held
   pub join : join_of (joins (1 ∷ 3 ∷ [])) ≡ record { relation = 0; sets = (0 ∷ []) ∷ (0 ∷ 1 ∷ []) ∷ [] }
   pub held-joins : held_joins (joins (1 ∷ 3 ∷ []) ∷ joins (1 ∷ 2 ∷ []) ∷ []) 1 ≡ join_of (joins (1 ∷ 3 ∷ [])) ∷ []
+  -- the old code stays the old one; of two pairs of codes the first is held
+  pub code-pair : pair_of (renumbered 5 9) ≡ record { old = 5; current = 9 }
+  pub held-pairs : held_codes (renumbered 5 9 ∷ renumbered 6 8 ∷ []) 1 ≡ record { old = 5; current = 9 } ∷ []
   -- variable 1 goes to the second image, variable 2 to constant 0, as there is no third
   pub images : images_of (cell (Constant 4) ∷ cell (Variable 9) ∷ []) 1 ≡ theory.variable 9
   pub images-past : images_of (cell (Constant 4) ∷ cell (Variable 9) ∷ []) 2 ≡ theory.constant 0
@@ -119,10 +133,15 @@ good_cases =
     -- 2 sets that share no column and 4 that do; none held, and 4 of them
     ∷ good_join schema (joins (1 ∷ 2 ∷ [])) ∷ good_join schema (joins (3 ∷ 1 ∷ 3 ∷ 2 ∷ []))
     ∷ good_joins schema 0 (replicate 4 no_join) ∷ good_joins schema 4 (replicate 4 (joins (1 ∷ 2 ∷ []))) ∷ shaped_join no_join
+    -- the least code and the largest, either way; beside 5, which became 9: another that became 9, and two codes that stand in no pair
+    ∷ good_pair (renumbered 0 2147483647) ∷ good_pair (renumbered 2147483647 0)
+    ∷ pair_fits (renumbered 5 9 ∷ []) (renumbered 6 9) ∷ pair_fits (renumbered 5 9 ∷ []) (renumbered 7 8)
+    -- no pair of codes; 16 of them
+    ∷ good_codes 0 (replicate 16 no_pair) ∷ good_codes 16 (renumbered_from 16 0)
     -- the largest constant and the last variable
     ∷ good_cell (cell (Constant 2147483647)) ∷ good_cell (cell (Variable 95))
     -- constant 0 where nothing is in use
-    ∷ blank_cell no_cell ∷ blank_dependency no_dependency ∷ blank_join no_join ∷ blank_query no_query
+    ∷ blank_cell no_cell ∷ blank_pair no_pair ∷ blank_dependency no_dependency ∷ blank_join no_join ∷ blank_query no_query
     -- never with a head of 0 and of 8 entries; a head of 8 entries; 12 rows; a row of 8 columns
     ∷ good_query schema no_query ∷ good_query schema (never_query 8) ∷ good_query schema (asked (replicate 8 (Variable 1)))
     ∷ good_query schema (stored [] (replicate 12 0) (replicate 12 pair)) ∷ good_query schema (stored [] (1 ∷ []) (replicate 8 (Variable 0) ∷ []))
@@ -154,10 +173,21 @@ bad_cases =
     -- 5 join dependencies; one that is not in use; a bad one; 3 sets
     ∷ good_joins schema 5 (replicate 5 (joins (1 ∷ 2 ∷ []))) ∷ good_joins schema 0 (pad 4 no_join (joins (1 ∷ 2 ∷ []) ∷ []))
     ∷ good_joins schema 1 (pad 4 no_join (joins (1 ∷ 1 ∷ []) ∷ [])) ∷ shaped_join (record { relation = 0; count = 0; sets = replicate 3 0 })
+    -- equal codes; an old and a current code past the limit
+    ∷ good_pair (renumbered 5 5) ∷ good_pair (renumbered 2147483648 5) ∷ good_pair (renumbered 5 2147483648) ∷ pair_fits [] (renumbered 5 5)
+    -- beside 5, which became 9: an old code that is old, one that is current, and a current one that is old; the same where 5 stands second
+    ∷ pair_fits (renumbered 5 9 ∷ []) (renumbered 5 8) ∷ pair_fits (renumbered 5 9 ∷ []) (renumbered 9 8) ∷ pair_fits (renumbered 5 9 ∷ []) (renumbered 8 5)
+    ∷ pair_fits (renumbered 6 7 ∷ renumbered 5 9 ∷ []) (renumbered 5 8)
+    -- 17 pairs; one that is not in use; a held one of zeros; the second and the third, and the first and the third, which may not be held together
+    ∷ good_codes 17 (renumbered_from 17 0) ∷ good_codes 0 (pad 16 no_pair (renumbered 5 9 ∷ [])) ∷ good_codes 1 (replicate 16 no_pair)
+    ∷ good_codes 3 (pad 16 no_pair (renumbered 5 9 ∷ renumbered 6 8 ∷ renumbered 6 7 ∷ []))
+    ∷ good_codes 3 (pad 16 no_pair (renumbered 5 9 ∷ renumbered 6 8 ∷ renumbered 9 7 ∷ []))
     -- a constant and a variable past the last
     ∷ good_cell (cell (Constant 2147483648)) ∷ good_cell (cell (Variable 96))
     -- another constant, or variable 0, where nothing is in use
     ∷ blank_cell (cell (Constant 1)) ∷ blank_cell (cell (Variable 0))
+    -- a pair of codes with one field in use
+    ∷ blank_pair (renumbered 1 0) ∷ blank_pair (renumbered 0 1)
     -- a dependency with one field in use
     ∷ blank_dependency (record { relation = 1; left = 0; right = 0 }) ∷ blank_dependency (depends 1 0) ∷ blank_dependency (depends 0 1)
     -- a join dependency with one field in use

@@ -8,7 +8,7 @@ use mathlib.Core.List.Memᴰ
 use mathlib.Core.List.{List, [], ◌∷◌, ◌++◌, map, map-id}
 use Prim.Native.Nat.{ℕ, suc, ◌+◌, ◌≤◌}
 use native.Mathlib.Omega.{arith}
-use borrow.Author.Tests.{eq-eqb}
+use borrow.Author.Tests.{eq-eqb, eqb-true}
 use lib.Dec.{eqb}
 use lib.ListN.{length, length-map}
 use Rattle.theory.specs.Query.{Entry, constant, variable, Row, Query, map_row, row_entries, variables_of, variables, member, RowsFit, ◌∈◌}
@@ -66,6 +66,21 @@ pub others-stay : (ps : List CodePair) (n : ℕ) → member n (old_codes ps) ≡
 unfolding read_code
 others-stay [] n out = refl
 others-stay (p ∷ ps) n out = let later = member-later ps p n out in read-later ps p n later.0 ∙ others-stay ps n later.1
+
+-- Where two numbers differ they differ the other way too
+eqb-swapped : (a b : ℕ) → eqb b a ≡ false → eqb a b ≡ false
+eqb-swapped a b other = bool_cases (eqb a b) (λ is. absurd (true≢false (sym (eq-eqb b a (sym (eqb-true a b is))) ∙ other))) (λ is. is)
+
+pub read-one-more : (ps : List CodePair) (p : CodePair) (n : ℕ) → member p.old (map (λ q. q.current) ps) ≡ false
+    → read_code (ps ++ p ∷ []) n ≡ read_code (p ∷ []) (read_code ps n)
+unfolding read_code member
+read-one-more [] p n out = refl
+read-one-more (q ∷ ps) p n out =
+    bool_cases (eqb p.old q.current) (λ is. absurd (true≢false (rw is at out)))
+    (λ apart.
+    bool_cases (eqb n q.old)
+    (λ is. rw is (rw (eqb-swapped q.current p.old apart) refl))
+    (λ is. rw is (read-one-more ps p n (rw apart at out))))
 
 pub read-twice : (ps : List CodePair) (n : ℕ) → CurrentStay ps → read_code ps (read_code ps n) ≡ read_code ps n
 read-twice ps n stay = others-stay ps (read_code ps n) (read-is-current ps n stay)

@@ -31,7 +31,7 @@ use Rattle.theory.proofs.Chase.{chases-wellformed, chases-head-length, chases-ro
 use Rattle.theory.proofs.Containment.{answer-along, frozen-sound}
 use Rattle.theory.proofs.Codes.{read-twice, read-is-current, others-stay, old-is-read, database-read, current-database, query-read, current-query}
 use Rattle.theory.proofs.Codes.{read-rows-fit, read-length, read-head-length, read-head-variables, read-row-variables, read-variables}
-use Rattle.theory.proofs.Codes.{answer-current, chases-current, frozen-current}
+use Rattle.theory.proofs.Codes.{read-one-more, answer-current, chases-current, frozen-current}
 
 -- ---- answers
 
@@ -292,3 +292,6 @@ chase-current ps widths ds q fit = chases-current ps widths fit (chase-chases ds
 
 pub frozen-is-current : codes.FrozenCurrent
 frozen-is-current = frozen-current
+
+pub read-one-pair-more : codes.ReadOneMore
+read-one-pair-more = read-one-more

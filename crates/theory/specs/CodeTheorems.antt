@@ -1,5 +1,5 @@
 -- What is proved of constants that were renumbered. Each statement is proved in `proofs/Theorems`.
-use Rattle.std.specs.Prelude.{◌≡◌, ◌↔◌, false, List, [], ◌∷◌, ◌++◌, ℕ, ◌<◌, length}
+use Rattle.std.specs.Prelude.{◌≡◌, ◌↔◌, false, List, [], ◌∷◌, ◌++◌, map, ℕ, ◌<◌, length}
 use Rattle.theory.specs.Query.{constant, variable, Query, variables, member, RowsFit, WellFormed, ◌∈◌}
 use Rattle.theory.specs.Database.{Database, Dependency, Legal}
 use Rattle.theory.specs.Answer.{Answer}
@@ -27,6 +27,12 @@ OldIsRead =
     (ps before after : List CodePair) (p : CodePair) → ps ≡ before ++ p ∷ after → member p.old (old_codes before) ≡ false
     → read_code ps p.old ≡ p.current
 
+-- With one pair more what was read is read on by it, where its old code is no current one of those before it: so the record's rule has it
+abbrev pub ReadOneMore : Type 0
+ReadOneMore =
+    (ps : List CodePair) (p : CodePair) (n : ℕ) → member p.old (map (λ q. q.current) ps) ≡ false
+    → read_code (ps ++ p ∷ []) n ≡ read_code (p ∷ []) (read_code ps n)
+
 -- Two old codes may have one current code, but no current code may be an old one: 5 and 6 may both become 9, but not 5 become 9 and 9 become 10
 abbrev pub StayExample : Type 0
 StayExample =
@@ -49,11 +55,11 @@ LegalAsReadExactly =
     (ps : List CodePair) (widths : List ℕ) (ds : List Dependency) (D : Database) → CurrentStay ps
     → LegalAsRead ps widths ds D ↔ (Legal widths ds D × (read_database ps D ≡ D))
 
--- Where 5 became 9, values are read and the numbers of relations are not
+-- Where 5 became 9, values are read and the numbers of relations are not. Rows that become equal both stay, each at its position
 abbrev pub DatabaseExample : Type 0
 DatabaseExample =
-    read_database (record { old = 5; current = 9 } ∷ []) (record { relation = 5; values = 5 ∷ 7 ∷ 9 ∷ [] } ∷ [])
-    ≡ record { relation = 5; values = 9 ∷ 7 ∷ 9 ∷ [] } ∷ []
+    read_database (record { old = 5; current = 9 } ∷ []) (record { relation = 5; values = 5 ∷ 7 ∷ 9 ∷ [] } ∷ record { relation = 5; values = 9 ∷ 7 ∷ 5 ∷ [] } ∷ record { relation = 0; values = [] } ∷ [])
+    ≡ record { relation = 5; values = 9 ∷ 7 ∷ 9 ∷ [] } ∷ record { relation = 5; values = 9 ∷ 7 ∷ 9 ∷ [] } ∷ record { relation = 0; values = [] } ∷ []
 
 -- ---- queries
 
