@@ -14,7 +14,7 @@ use Rattle.query.specs.View.{pair_of}
 use Rattle.query.specs.Rule.{good_pair, apart, pair_fits, all_fit}
 use Rattle.theory.specs.Query.{member, ◌∈◌}
 use Rattle.theory.specs.Codes as codes
-use Rattle.theory.specs.Codes.{old_codes, CurrentStay}
+use Rattle.theory.specs.Codes.{read_code, old_codes, CurrentStay}
 
 -- ---- one more
 
@@ -98,6 +98,15 @@ none-current n (q ∷ ps) e p (Memᴰ.head is) =
     ∙ not-true (eqb n q.current) (and_left (not (eqb n q.current)) (every (λ q. not (eqb n q.current)) ps) e)
 none-current n (q ∷ ps) e p (Memᴰ.tail at) = none-current n ps (and_right (not (eqb n q.current)) (every (λ q. not (eqb n q.current)) ps) e) p at
 
+-- or the old code of none
+none-same : (n : ℕ) (ps : List CodePair) → every (λ q. not (eqb n q.old)) ps ≡ true → (p : codes.CodePair) → p ∈ map pair_of ps → eqb p.old n ≡ false
+unfolding every
+none-same n [] e p x'' = elim x'' [ ]
+none-same n (q ∷ ps) e p (Memᴰ.head is) =
+    ap (λ (c : codes.CodePair). eqb c.old n) is ∙ eqb-swap q.old n
+    ∙ not-true (eqb n q.old) (and_left (not (eqb n q.old)) (every (λ q. not (eqb n q.old)) ps) e)
+none-same n (q ∷ ps) e p (Memᴰ.tail at) = none-same n ps (and_right (not (eqb n q.old)) (every (λ q. not (eqb n q.old)) ps) e) p at
+
 -- so no current code is an old one
 pub current-stays : (ps : List CodePair) → all_fit ps ≡ true → CurrentStay (map pair_of ps)
 unfolding all_fit pair_fits member
@@ -115,3 +124,19 @@ current-stays (q ∷ ps) all p (Memᴰ.tail at) =
     (λ r e. and_right (not (eqb q.old r.old)) (not (eqb q.old r.current)) (and_left (not (eqb q.old r.old) && not (eqb q.old r.current)) (not (eqb q.current r.old)) e))
     ps (and_right (good_pair q) (every (apart q) ps) first) in
     rw (none-current q.old ps others p at) (current-stays ps (and_right (good_pair q && every (apart q) ps) (all_fit ps) all) p at)
+
+-- ---- each counts
+
+-- Of pairs that may be held together each old code is read as its current one
+pub each-read : (ps : List CodePair) → all_fit ps ≡ true → (p : codes.CodePair) → p ∈ map pair_of ps → read_code (map pair_of ps) p.old ≡ p.current
+unfolding all_fit pair_fits read_code
+each-read [] all p x'' = elim x'' [ ]
+each-read (q ∷ ps) all p (Memᴰ.head is) =
+    let here : eqb p.old q.old ≡ true = eq-eqb p.old q.old (ap (λ (c : codes.CodePair). c.old) is) in
+    rw here (sym (ap (λ (c : codes.CodePair). c.current) is))
+each-read (q ∷ ps) all p (Memᴰ.tail at) =
+    let first = and_left (good_pair q && every (apart q) ps) (all_fit ps) all in
+    let others = every-weaken (apart q) (λ r. not (eqb q.old r.old))
+    (λ r e. and_left (not (eqb q.old r.old)) (not (eqb q.old r.current)) (and_left (not (eqb q.old r.old) && not (eqb q.old r.current)) (not (eqb q.current r.old)) e))
+    ps (and_right (good_pair q) (every (apart q) ps) first) in
+    rw (none-same q.old ps others p at) (each-read ps (and_right (good_pair q && every (apart q) ps) (all_fit ps) all) p at)

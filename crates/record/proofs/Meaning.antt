@@ -21,8 +21,8 @@ use Rattle.record.specs.declared.Record.{Record}
 use Rattle.record.specs.View.{schema_of, codes_of, dependencies_of, joins_of}
 use Rattle.record.specs.Rule.{good_record}
 use Rattle.record.specs.Calls.{concluded, broken_record, unknown_place, filled, with_place, with_code, with_dependency, with_join, add_code_conditions, add_code, add_conditions, add_dependency, add_join_conditions, add_join, put_query}
-use Rattle.record.specs.Meaning.{AddCodeKeeps, AddCodeHolds, CodesStay, OldBelow, AddKeeps, AddHolds, AddJoinKeeps, AddJoinHolds, PutKeeps}
-use Rattle.query.proofs.Pairs.{current-stays, old-limit}
+use Rattle.record.specs.Meaning.{AddCodeKeeps, AddCodeHolds, CodesStay, OldCodesRead, OldBelow, AddKeeps, AddHolds, AddJoinKeeps, AddJoinHolds, PutKeeps}
+use Rattle.query.proofs.Pairs.{current-stays, old-limit, each-read}
 use Rattle.record.proofs.Good.{good-record}
 use Rattle.record.proofs.Kept.{filled-place, place_kept, code-kept, dependency-kept, join_kept}
 
@@ -73,6 +73,9 @@ add-code-holds r p long e =
 
 pub codes-stay : CodesStay
 codes-stay r good = current-stays (take r.coded r.codes) (good-record r good).codes
+
+pub old-codes-read : OldCodesRead
+old-codes-read r good = each-read (take r.coded r.codes) (good-record r good).codes
 
 pub old-below : OldBelow
 old-below r good = old-limit (take r.coded r.codes) (good-record r good).codes

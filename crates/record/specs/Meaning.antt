@@ -6,7 +6,7 @@ use Rattle.query.specs.declared.JoinDependency.{JoinDependency}
 use Rattle.query.specs.declared.CodePair.{CodePair}
 use Rattle.theory.specs.Query.{◌∈◌}
 use Rattle.theory.specs.Codes as Codes
-use Rattle.theory.specs.Codes.{CurrentStay}
+use Rattle.theory.specs.Codes.{read_code, CurrentStay}
 use Rattle.record.specs.declared.Record.{Record}
 use Rattle.refusals.specs.Refusals.{Reply, gives}
 use Rattle.query.specs.View.{dependency_of, join_of, pair_of}
@@ -29,6 +29,10 @@ AddCodeHolds = (r : Record) (p : CodePair) → length r.codes ≡ 16 → (add_co
 -- In a record that 14 passes no current code is an old one, so that to read twice is to read once
 abbrev pub CodesStay : Type 0
 CodesStay = (r : Record) → good_record r ≡ true → CurrentStay (codes_of r)
+
+-- Each of its old codes is read as its current one
+abbrev pub OldCodesRead : Type 0
+OldCodesRead = (r : Record) → good_record r ≡ true → (p : Codes.CodePair) → p ∈ codes_of r → read_code (codes_of r) p.old ≡ p.current
 
 -- and no old code is so high that a query read as a database has it for a variable
 abbrev pub OldBelow : Type 0
