@@ -1,5 +1,5 @@
--- What adding a pair of codes or a dependency and putting a query answer: what they ask, in the order of SPECIFICATION, Refusals, and the record after it. And what the other calls
--- share with them: what a call says, places, and the record with another content of one.
+-- What adding a pair of codes or a dependency and putting a query answer: what they ask, in the order of SPECIFICATION, Refusals, and the record after it. And
+-- what the other calls share with them: what a call says, places, queries as they are read, and the record with another content of one.
 use Rattle.std.specs.Prelude.{Bool, not, List, [], ◌∷◌, ℕ, ◌+◌, eqb, ltb, take, get_or, set}
 use Rattle.std.proofs.Math.Option.{Option, none, some}
 use Rattle.theory.specs.Query as theory

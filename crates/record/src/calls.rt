@@ -1,5 +1,5 @@
-// Adding a pair of codes or a dependency of either kind and putting a query, as methods: each takes the record by value and hands it back with the answer, unchanged where it
-// is refused. And what the other calls share: places looked up, a record with another content of a place.
+// Adding a pair of codes or a dependency of either kind and putting a query, as methods: each takes the record by value and hands it back with the answer,
+// unchanged where it is refused. And what the other calls share: places looked up, the query of a place as it is read, a record with another content of a place.
 ghost use Rattle.std.specs.Prelude.{◌≡◌, ◌<◌, true};
 ghost use Rattle.std.proofs.Math.Option.{none, some};
 ghost use Rattle.query.specs.Rule.{no_place};

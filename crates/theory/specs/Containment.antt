@@ -1,4 +1,4 @@
--- Containment of queries over a class of databases, and a query read as a database. The class of demand 2 is `LegalForBoth` of `joins`.
+-- Containment of queries over a class of databases, and a query read as a database. The class of demand 2 is `LegalForBothAsRead` of `joins`.
 use Rattle.std.specs.Prelude.{◌≢◌, ◌↔◌, List, [], map, ℕ, ◌+◌, ◌<◌}
 use Rattle.theory.specs.Query.{Entry, constant, Query, map_row, row_entries, ◌∈◌}
 use Rattle.theory.specs.Database.{Database}
