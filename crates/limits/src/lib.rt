@@ -156,9 +156,7 @@ fn pairs_blank(pairs: &[CodePair]) -> bool
 pub fn codes_good(coded: u8, codes: [CodePair; 16]) -> bool
     ensures { result ≡ good_codes coded codes }
 {
-    coded <= 16
-        && all_fit(&codes[..coded as usize])
-        && pairs_blank(&codes[coded as usize..])
+    coded <= 16 && all_fit(&codes[..coded as usize]) && pairs_blank(&codes[coded as usize..])
 }
 
 // ---- dependencies
