@@ -115,7 +115,7 @@ class Engine:
         self.library.spernevan_compare.restype = ctypes.c_uint8
         self.library.spernevan_reduce.restype = ctypes.c_uint8
         self.mapping = (ctypes.c_uint32 * 192)()
-        self.room = (ctypes.c_uint8 * 4445)()
+        self.room = (ctypes.c_uint8 * 4574)()
         self.length = ctypes.c_size_t()
         self.byte = ctypes.c_uint8()
 
@@ -133,13 +133,13 @@ class Engine:
     def compare(self, data):
         n = ctypes.c_size_t
         took = self.timed(lambda: self.library.spernevan_compare(
-            data, n(len(data)), n(0), n(1), ctypes.byref(self.byte), self.mapping, n(192), self.room, n(4445), ctypes.byref(self.length)))
+            data, n(len(data)), n(0), n(1), ctypes.byref(self.byte), self.mapping, n(192), self.room, n(4574), ctypes.byref(self.length)))
         return took, self.byte.value
 
     def reduce(self, data, source):
         n = ctypes.c_size_t
         return self.timed(lambda: self.library.spernevan_reduce(
-            data, n(len(data)), n(source), n(2), self.room, n(4445), ctypes.byref(self.length), ctypes.byref(self.byte), self.mapping, n(192)))
+            data, n(len(data)), n(source), n(2), self.room, n(4574), ctypes.byref(self.length), ctypes.byref(self.byte), self.mapping, n(192)))
 
 
 def main():

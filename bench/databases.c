@@ -4,6 +4,7 @@
 //   databases shapes     tests of join dependencies whose sets are chains, cycles, or held in an order that leads through products
 //   databases growth     how times grow with the rows and the answers, from 15,625 to 4 million
 //   databases repeats    repeated rows, and rows of tables that the query does not name
+//   databases codes      the same calls with no pair of codes and with 16
 // A time is the processor's, in milliseconds, for a whole call, with the working memory mapped in it and given back: the best of 5 calls, or of 3 on more than
 // a million words.
 #define _DEFAULT_SOURCE
@@ -653,6 +654,63 @@ static void repeats(void) {
     }
 }
 
+// ---- pairs of codes
+
+static void add_code(uint32_t old, uint32_t current) {
+    uint8_t out[SPERNEVAN_FILE];
+    size_t length;
+    if (spernevan_add_code(file, file_length, old, current, out, sizeof out, &length)) fail("add a pair of codes");
+    memcpy(file, out, length);
+    file_length = length;
+}
+
+// A line for a call with no pair and with 16, whose old codes are `old`, `old` + 37 and so on.
+static void code_line(const char *what, int test, uint32_t old) {
+    size_t before = 0, after = 0;
+    int obeys = 0;
+    double plain = test ? engine_test(0, &obeys) : engine_evaluate(&before);
+    for (uint32_t k = 0; k < 16; k++) add_code(old + 37 * k, 2147480000 + k);
+    double read = test ? engine_test(0, &obeys) : engine_evaluate(&after);
+    printf("| %s | %zu | %zu | %.2f | %.2f | %.2f |\n", what, word_count, after, plain, read, read / plain);
+    fflush(stdout);
+}
+
+static void eight_columns(uint32_t n, const char *query, uint32_t old) {
+    open_record((uint8_t[]){8}, 1);
+    put(query);
+    word_count = 0;
+    for (uint32_t i = 0; i < n; i++) {
+        uint32_t values[8];
+        for (int c = 0; c < 8; c++) values[c] = old ? old + 37 * draw(16) : draw(1000000);
+        row(0, 8, values);
+    }
+}
+
+static void renumbered(void) {
+    printf("| Case | words | answers | no pair | 16 pairs | ratio |\n|---|---|---|---|---|---|\n");
+    for (uint32_t n = 10000; n <= 1000000; n *= 10) {
+        key_join(n);
+        code_line("key join, all rows", 0, 2000000000);
+        projection(n);
+        code_line("projection of a join", 0, 2000000000);
+        path(n);
+        code_line("path of four", 0, 2000000000);
+        eight_columns(n, "v0 R0 v0 v1 v2 v3 v4 v5 v6 7", 0);
+        code_line("eight columns, a constant in the last", 0, 2000000000);
+        eight_columns(n, "v1 R0 2000000001 v1 v2 v3 v4 v5 v6 v7", 0);
+        code_line("eight columns, a constant in the first, no answer", 0, 2000000000);
+        eight_columns(n, "v0 v1 v2 v3 v4 v5 v6 v7 R0 v0 v1 v2 v3 v4 v5 v6 v7", 0);
+        code_line("eight columns, all answers", 0, 2000000000);
+        eight_columns(n, "v0 v1 v2 v3 v4 v5 v6 v7 R0 v0 v1 v2 v3 v4 v5 v6 v7", 2000000000);
+        code_line("eight columns, all answers, every value an old code", 0, 2000000000);
+        keyed_tables(n, 2, n);
+        open_record((uint8_t[]){3, 3}, 2);
+        add(0, 1, 1);
+        add(1, 1, 2);
+        code_line("test, two keys", 1, 2000000000);
+    }
+}
+
 int main(int arguments, char **argument) {
     words = lent(MOST);
     theirs = lent(MOST);
@@ -665,7 +723,9 @@ int main(int arguments, char **argument) {
         growth();
     else if (!strcmp(what, "repeats"))
         repeats();
+    else if (!strcmp(what, "codes"))
+        renumbered();
     else
-        fail("the argument is joins, shapes, growth, repeats, or none");
+        fail("the argument is joins, shapes, growth, repeats, codes, or none");
     return 0;
 }
