@@ -50,7 +50,7 @@ pub fn first_like(target: &[u32], offered: [u8; 24], d: usize) -> usize
 }
 
 // Whether row d of the target is the same as an earlier one.
-fn repeats(target: &[u32], offered: [u8; 24], d: usize) -> bool
+pub fn repeats(target: &[u32], offered: [u8; 24], d: usize) -> bool
     requires { (length target.now ≡ 200) × (d < 24) }
     ensures { Tells result (Repeats target.now offered d) }
 {

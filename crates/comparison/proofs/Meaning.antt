@@ -31,8 +31,8 @@ use Rattle.comparison.specs.declared.Verdict.{Verdict}
 use Rattle.comparison.specs.declared.Verdict.TheVariants as verdict
 use Rattle.std.specs.Prelude.{Result, Ok, Err, Bool, true, false}
 use Rattle.refusals.specs.declared.Refusal.{Refusal}
-use Rattle.comparison.specs.Comparison.{pair_refusal, comparison_refusal, not_contained, verdict_reply, verdict_of, images_at, read_images, Compared, ComparisonShape, CheckedMapping}
-use Rattle.comparison.specs.Meaning.{ImagesExample, CheckMeans, CheckDenies, ComparedOnce, FunctionalAlone, OutcomeMeans}
+use Rattle.comparison.specs.Comparison.{pair_refusal, comparison_refusal, not_contained, verdict_reply, verdict_of, images_at, read_images, Compared, CheckedMapping}
+use Rattle.comparison.specs.Meaning.{ImagesExample, CheckMeans, CheckDenies, QueryShape, ComparedOnce, FunctionalAlone, OutcomeMeans}
 use Rattle.comparison.proofs.Pairs.{standing, compare-stands}
 use Rattle.comparison.proofs.Answers.{joins-good}
 use Rattle.comparison.proofs.Checks.{checked_refused, checked-decided}
@@ -100,7 +100,7 @@ compared-once r p q c d sized-c sized-d is is' = go c d sized-c sized-d is is' (
     Once : Result Verdict Refusal → Result Verdict Refusal → Type 0
     Once c d = (c ≡ d) ⊎ ((images : List Cell) × (others : List Cell) × (c ≡ Ok (verdict.Mapped images)) × (d ≡ Ok (verdict.Mapped others)))
 
-    go : (c d : Result Verdict Refusal) → ComparisonShape c → ComparisonShape d → Compared r p q c → Compared r p q d → verdict_reply c ≡ verdict_reply d
+    go : (c d : Result Verdict Refusal) → QueryShape c → QueryShape d → Compared r p q c → Compared r p q d → verdict_reply c ≡ verdict_reply d
         → Once c d
     go (Ok verdict.Never) (Ok verdict.Never) sized-c sized-d is is' e = inl refl
     go (Ok verdict.Never) (Ok (verdict.Mapped others)) sized-c sized-d is is' e = let z : ◌≡◌ {A = ℕ} 2 1 = cc in absurd (omega arith)
@@ -117,7 +117,7 @@ compared-once r p q c d sized-c sized-d is is' = go c d sized-c sized-d is is' (
         let a = is.chased query refl in
         let b = is'.chased other refl in
         let same : query ≡ other =
-        ap as_tableau (stored-unique 24 (schema_of r) narrow (as_query query) (as_query other) sized-c sized-d a.1 b.1 (a.0 ∙ sym b.0))
+        ap as_tableau (stored-unique 24 (schema_of r) narrow (as_query query) (as_query other) (sized-c query refl) (sized-d other refl) a.1 b.1 (a.0 ∙ sym b.0))
         in
         inl (ap (λ (t : Tableau). Ok (verdict.Apart t)) same)
     go (Ok (verdict.Apart query)) (Err other) sized-c sized-d is is' e = absurd (refused-gives (sym e))

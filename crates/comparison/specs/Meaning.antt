@@ -8,15 +8,16 @@ use Rattle.lists.specs.Tests.{every}
 use Rattle.joins.specs.JoinChase.{Outcome, chased, JoinChases}
 use Rattle.query.specs.declared.Cell.{Cell}
 use Rattle.minimization.specs.Checking.{image_at}
-use Rattle.query.specs.Rule.{shaped_join}
+use Rattle.query.specs.Rule.{shaped_join, shaped_tableau}
+use Rattle.query.specs.Types.{Tableau}
 use Rattle.record.specs.declared.Record.{Record}
 use Rattle.record.specs.View.{schema_of, dependencies_of, joins_of}
 use Rattle.record.specs.Rule.{good_record}
 use Rattle.record.specs.Calls.{query_at}
 use Rattle.comparison.specs.declared.Verdict.{Verdict}
-use Rattle.comparison.specs.declared.Verdict.TheVariants.{Mapped}
+use Rattle.comparison.specs.declared.Verdict.TheVariants.{Mapped, Apart}
 use Rattle.refusals.specs.declared.Refusal.{Refusal}
-use Rattle.comparison.specs.Comparison.{pair_refusal, outcome_at, images_at, read_images, Compared, ComparisonShape, CheckedMapping}
+use Rattle.comparison.specs.Comparison.{pair_refusal, outcome_at, images_at, read_images, Compared, CheckedMapping}
 
 -- Checking says yes exactly when the two places are not refused and the images are a mapping from q's query to p's, all as they are read. A mapping takes
 -- each variable that q's query does not have to constant 0
@@ -31,10 +32,14 @@ CheckDenies =
     (r : Record) (p q : ℕ) (images : List Cell) (c : Result Bool Refusal) → CheckedMapping r p q images c
     → (c ≡ Ok false) ↔ ((pair_refusal r p q ≡ none) × (IsMapping (query_at r q) (query_at r p) (image_at (images_at r q images)) → ⊥))
 
--- Two comparisons of the same places, with arrays as long as their types say, are the same but for the mapping
+-- The query that a comparison gives, if it gives one, has arrays as long as its type says
+abbrev pub QueryShape : Result Verdict Refusal → Type 0
+QueryShape c = (query : Tableau) → c ≡ Ok (Apart query) → shaped_tableau query ≡ true
+
+-- Two comparisons of the same places, with the arrays of a query as long as their types say, are the same but for the mapping
 abbrev pub ComparedOnce : Type 0
 ComparedOnce =
-    (r : Record) (p q : ℕ) (c d : Result Verdict Refusal) → ComparisonShape c → ComparisonShape d → Compared r p q c → Compared r p q d
+    (r : Record) (p q : ℕ) (c d : Result Verdict Refusal) → QueryShape c → QueryShape d → Compared r p q c → Compared r p q d
     → (c ≡ d) ⊎ ((images others : List Cell) × (c ≡ Ok (Mapped images)) × (d ≡ Ok (Mapped others)))
 
 -- With no join dependency held the chase is that with the functional dependencies, repeated rows and all, and has room

@@ -12,7 +12,7 @@ use Rattle.record.specs.Calls.{outcome_reply, is_filled, query_at}
 use Rattle.refusals.specs.declared.Refusal.{Refusal}
 use Rattle.refusals.specs.Refusal.{reply_of}
 use Rattle.comparison.specs.Comparison.{comparison_refusal, verdict_on, chased_at, Compared}
-use Rattle.refusals.specs.Refusals.{over_unless, Reply, gives, reply}
+use Rattle.refusals.specs.Refusals.{over_unless, Reply, gives, refused, reply}
 use Rattle.refusals.proofs.Refusals.{refused-gives}
 use Rattle.query.specs.declared.Place.{Place}
 use Rattle.query.specs.Rule.{no_place}
@@ -32,7 +32,7 @@ use Rattle.writer.specs.Write.{written, after_writing}
 use Rattle.file.proofs.RoundTrip.{written_back, read_back}
 use Rattle.writer.proofs.Writing.{fits-written, written-fits}
 use Rattle.lists.proofs.Over.{over-length}
-use Rattle.demands.specs.Demand2.{Decides, Evaluates, FileComesBack, RecordComesBack}
+use Rattle.demands.specs.Demand2.{Decides, Evaluates, FileComesBack, RecordComesBack, RecordComesBackAlone}
 use native.Mathlib.Nat.{zero-add}
 
 module _ (r : Record) (p q : ℕ) where
@@ -99,12 +99,17 @@ evaluates r place words before after a is-a is-after =
 
 -- ---- files
 
-module _ (file before after : List ℕ) (o : Outcome) (is : outcome_reply o ≡ read_outcome (read_file file)) where
+-- What a reading that is done gives
+reads-gives : (x : Reply Record) (r : Record) → read_outcome x ≡ (gives tt, r) → x ≡ gives r
+reads-gives (gives s) r e = ap (λ (p : Reply (Unit {0}) × Record). gives p.1) e
+reads-gives (refused n) r e = absurd (refused-gives (ap (λ (p : Reply (Unit {0}) × Record). p.0) e))
+
+module _ (file before after : List ℕ) (s : Record) (is : read_file file ≡ gives s) where
   -- A file whose record is written back
-  pub written-again : (w : Result ℕ Refusal) → Bytes file → reply_of w ≡ written o.«record» before → after ≡ after_writing o.«record» before
+  pub record-again : (w : Result ℕ Refusal) → Bytes file → reply_of w ≡ written s before → after ≡ after_writing s before
       → FileComesBack file before after w
-  written-again w bytes says left r reads room =
-      let same : o.«record» ≡ r = ap (λ (x : Reply (Unit {0}) × Record). x.1) (is ∙ reads) in
+  record-again w bytes says left r reads room =
+      let same : s ≡ r = ap (λ (x : Reply (Unit {0}) × Record). x.1) (ap read_outcome (sym is) ∙ reads) in
       let back = written_back file before r bytes reads room in
       let buffer = left ∙ ap (λ (x : Record). after_writing x before) same in (
         says ∙ ap (λ (x : Record). written x before) same ∙ back.0,
@@ -114,11 +119,32 @@ module _ (file before after : List ℕ) (o : Outcome) (is : outcome_reply o ≡ 
             ∙ ap (λ (n : ℕ). file ++ drop n before) (sym (zero-add (length file))),
       )
 
+module _ (file before after : List ℕ) (o : Outcome) (is : outcome_reply o ≡ read_outcome (read_file file)) where
+  -- A file whose record is written back
+  pub written-again : (w : Result ℕ Refusal) → Bytes file → reply_of w ≡ written o.«record» before → after ≡ after_writing o.«record» before
+      → FileComesBack file before after w
+  written-again w bytes says left r reads room =
+      let same : o.«record» ≡ r = ap (λ (x : Reply (Unit {0}) × Record). x.1) (is ∙ reads) in
+      record-again file before after o.«record» (reads-gives (read_file file) r reads ∙ ap (λ (x : Record). gives x) (sym same)) w bytes says left r
+      reads room
+
 module _ (r : Record) (before after : List ℕ) (o : Outcome) where
   -- A record whose file is read back
   pub read_again : shaped r ≡ true → (n : ℕ) → written r before ≡ gives n → after ≡ after_writing r before
       → outcome_reply o ≡ read_outcome (read_file (take n after)) → RecordComesBack r before o
   read_again shape n says left is m writes = is ∙ ap (λ (l : List ℕ). read_outcome (read_file (take n l))) left ∙ read_back r before n shape says
+
+module _ (r : Record) (before after : List ℕ) (o : Result Record Refusal) where
+  -- A record whose file is read back alone
+  pub read-again-alone : shaped r ≡ true → (n : ℕ) → written r before ≡ gives n → after ≡ after_writing r before
+      → reply_of o ≡ read_file (take n after) → RecordComesBackAlone r before o
+  read-again-alone shape n says left is m writes =
+      is ∙ ap (λ (l : List ℕ). read_file (take n l)) left ∙ reads-gives _ r (read_back r before n shape says)
+
+-- A file that is refused comes back in no way
+pub not-read : (file before after : List ℕ) (w : Result ℕ Refusal) (n : ℕ) → read_file file ≡ refused n → FileComesBack file before after w
+not-read file before after w n is r reads room =
+    absurd (refused-gives (ap (λ (p : Reply (Unit {0}) × Record). p.0) (ap read_outcome (sym is) ∙ reads)))
 
 -- What is written lies in the buffer
 pub inside : (r : Record) (before after : List ℕ) (n : ℕ) → written r before ≡ gives n → after ≡ after_writing r before → n ≤ length after

@@ -40,7 +40,7 @@ use Rattle.format.proofs.Stretches.{length-stretches}
 use Rattle.writer.specs.Write.{writing_refusal, written, after_writing}
 use Rattle.demands.specs.Demand1.{Meets, NothingToKeep, read_asks}
 use Rattle.demands.specs.Demand1Calls.{OpenMeets, AddCodeMeets, AddMeets, AddJoinMeets, PutMeets, DropMeets, DeterminedMeets, CompareMeets, CheckMeets}
-use Rattle.demands.specs.Demand1Calls.{ReduceMeets, TestMeets, EvaluateMeets, CountMeets, ReadMeets, WriteMeets}
+use Rattle.demands.specs.Demand1Calls.{ReduceMeets, TestMeets, EvaluateMeets, CountMeets, ReadMeets, ReadRecordMeets, WriteMeets}
 
 -- ---- every call
 
@@ -209,3 +209,7 @@ read_meets file o is =
     (λ n f. ap (λ (x : Reply (Unit {0}) × Record). x.1) is ∙ reply-blank (read_file file) n (first-fault file ∙ f))
     (λ f. read-given (read_file file) (first-fault file ∙ f) ∙ ap (λ (x : Reply (Unit {0}) × Record). gives x.1) (sym is))
     (read_asks file) (read-asks file) (read-ordered file)
+
+pub read-record-meets : (file : List ℕ) (o : Result Record Refusal) → reply_of o ≡ read_file file → ReadRecordMeets file o
+read-record-meets file o is =
+    stretches-meet _ _ _ _ (ap refusal_in is ∙ first-fault file) (λ n f. tt) (λ f. is) (read_asks file) (read-asks file) (read-ordered file)

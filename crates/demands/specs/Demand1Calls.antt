@@ -118,6 +118,11 @@ abbrev pub ReadMeets : List ℕ → Outcome → Type 0
 ReadMeets file o =
     Meets (read_conditions file) (read_asks file) (refusal_in (reply_of o.answer)) (o.«record» ≡ blank_record) (read_file file ≡ gives o.«record»)
 
+-- The same reading without the blank record, as the exported calls and the listing read
+abbrev pub ReadRecordMeets : List ℕ → Result Record Refusal → Type 0
+ReadRecordMeets file o =
+    Meets (read_conditions file) (read_asks file) (refusal_in (reply_of o)) NothingToKeep (reply_of o ≡ read_file file)
+
 -- Writing a record into a buffer
 abbrev pub WriteMeets : Record → List ℕ → List ℕ → Result ℕ Refusal → Type 0
 WriteMeets r before after w =

@@ -61,3 +61,7 @@ FileComesBack file before after w =
 -- A record that writing accepts, written and read back: the same record
 abbrev pub RecordComesBack : Record → List ℕ → Outcome → Type 0
 RecordComesBack r before o = (n : ℕ) → Writes r before n → outcome_reply o ≡ (gives tt, r)
+
+-- The same where it is read as the exported calls and the listing read: the record alone
+abbrev pub RecordComesBackAlone : Record → List ℕ → Result Record Refusal → Type 0
+RecordComesBackAlone r before o = (n : ℕ) → Writes r before n → reply_of o ≡ gives r

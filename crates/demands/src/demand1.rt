@@ -2,7 +2,7 @@
 ghost use Rattle.admission.specs.Conditions.{test_conditions, search_conditions};
 ghost use Rattle.database.specs.Calls.{UnusedIfRefused};
 ghost use Rattle.demands.specs.Demand1Calls.{OpenMeets, AddCodeMeets, AddMeets, AddJoinMeets, PutMeets, DropMeets, DeterminedMeets, CompareMeets, CheckMeets, ReduceMeets};
-ghost use Rattle.demands.specs.Demand1Calls.{TestMeets, EvaluateMeets, CountMeets, ReadMeets, WriteMeets};
+ghost use Rattle.demands.specs.Demand1Calls.{TestMeets, EvaluateMeets, CountMeets, ReadMeets, ReadRecordMeets, WriteMeets};
 
 use comparison::Verdict;
 use query::{Cell, CodePair, Dependency, JoinDependency, Query};
@@ -177,6 +177,13 @@ pub fn read(file: &[u8]) -> Outcome
     ensures { ReadMeets file.now result }
 {
     file::read(file)
+}
+
+// Reads a file: its record alone, or the refusal.
+pub fn read_record(file: &[u8]) -> Result<Record, Refusal>
+    ensures { ReadRecordMeets file.now result }
+{
+    file::read_record(file)
 }
 
 // Writes a record into a lent buffer.

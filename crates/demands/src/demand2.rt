@@ -1,5 +1,5 @@
 // Demand 2: containment is decided over all databases, answers are those of conjunctive queries, and files and records come back as they were.
-ghost use Rattle.demands.specs.Demand2.{Decides, Evaluates, FileComesBack, RecordComesBack};
+ghost use Rattle.demands.specs.Demand2.{Decides, Evaluates, FileComesBack, RecordComesBack, RecordComesBackAlone};
 
 use comparison::Verdict;
 use record::{Outcome, Record};
@@ -61,4 +61,20 @@ pub fn read_back(given: Record, buffer: &mut [u8]) -> Outcome
             record: given,
         },
     }
+}
+
+// A file that is read as the exported calls read it, and its record written: the same bytes.
+pub fn write_record_back(file: &[u8], buffer: &mut [u8]) -> Result<usize, Refusal>
+    ensures { FileComesBack file.now buffer.old buffer.new result }
+{
+    let read = file::read_record(file)?;
+    file::write(read, buffer)
+}
+
+// A record that is written, and its file read as the exported calls read it: the same record.
+pub fn read_record_back(given: Record, buffer: &mut [u8]) -> Result<Record, Refusal>
+    ensures { RecordComesBackAlone given buffer.old result }
+{
+    let n = file::write(given, buffer)?;
+    file::read_record(&buffer[..n])
 }

@@ -113,7 +113,8 @@ fn tried(
 // The rows that are kept. Those that repeat earlier ones go at once, as they would in their turn.
 pub fn kept(q: Query) -> u32
     requires { Readable q }
-    ensures { (schema : List ℕ) → Narrow schema → good_query schema q ≡ true → IsKept schema q result }
+    ensures value { (schema : List ℕ) → Narrow schema → good_query schema q ≡ true → IsKept schema q result }
+    ensures in_bounds { result < 2 ^ q.size }
 {
     // Kept as it is: made first, since an array is blanked as the function begins too, and here that is once.
     let mut pairs = [0u32; 4056];

@@ -36,7 +36,7 @@ fn in_use<T, G: Fn(&T) -> bool, B: Fn(&T) -> bool>(xs: &[T], n: usize, good: G, 
 }
 
 // Whether numbers that are not in use are 0.
-fn all_zero(numbers: &[u8]) -> bool
+pub fn all_zero(numbers: &[u8]) -> bool
     ensures { result ≡ every is_zero numbers.now }
 {
     numbers.iter().all(|n| *n == 0)
@@ -45,7 +45,7 @@ fn all_zero(numbers: &[u8]) -> bool
 // ---- cells
 
 // Whether an entry in use is within the limits.
-fn cell_good(c: &Cell) -> bool
+pub fn cell_good(c: &Cell) -> bool
     ensures { result ≡ good_cell c.now }
 {
     match c.entry {
@@ -56,21 +56,21 @@ fn cell_good(c: &Cell) -> bool
 
 // Whether an entry is that of a cell not in use.
 // Kept as it is: this and `dependency_blank`, `join_blank`, `cell_names` below name a derived `==`, and the clause is the definition that the rule names.
-fn cell_blank(c: &Cell) -> bool
+pub fn cell_blank(c: &Cell) -> bool
     ensures { result ≡ blank_cell c.now }
 {
     *c == NO_CELL
 }
 
 // Whether the first n cells are good, and those after them blank.
-fn cells_good(cells: &[Cell], n: usize) -> bool
+pub fn cells_good(cells: &[Cell], n: usize) -> bool
     ensures { result ≡ in_use n good_cell blank_cell cells.now }
 {
     in_use(cells, n, cell_good, cell_blank)
 }
 
 // Whether every cell is blank.
-fn cells_blank(cells: &[Cell]) -> bool
+pub fn cells_blank(cells: &[Cell]) -> bool
     ensures { result ≡ every blank_cell cells.now }
 {
     cells.iter().all(cell_blank)
@@ -170,7 +170,7 @@ fn dependency_blank(d: &Dependency) -> bool
 
 // Whether sets of columns together are all columns of a relation of the given width.
 // Kept as it is: the sets are always 4, and their union is no longer in this form than as a fold with a closure.
-fn sets_cover(sets: [u8; 4], width: u8) -> bool
+pub fn sets_cover(sets: [u8; 4], width: u8) -> bool
     requires { (width ≤ 8) × (every (λ set. ltb set (2 ^ width)) sets ≡ true) }
     ensures { result ≡ subset (numbers_where (λ c. true) 0 width) (flatten (map columns_of sets)) }
 {
@@ -196,7 +196,7 @@ pub fn head_in_use(arity: u8, size: u8) -> usize
 
 // Whether a query is that of a vacant place.
 #[tactic(auto, using(std::proofs::lemmas::Bool::Decides::nat_tests), unfolding(query::specs::Rule::blank_query))]
-fn query_blank(q: Query) -> bool
+pub fn query_blank(q: Query) -> bool
     ensures { result ≡ blank_query q }
 {
     q.arity == 0
@@ -215,7 +215,7 @@ fn cell_names(c: &Cell, v: u8) -> bool
 
 // Whether a variable stands in some cells.
 // Kept as it is: `stands` of `mapping` and of `replacement` test the same for clauses in words of their own; one function would carry all three clauses.
-fn cells_have(cells: &[Cell], v: u8) -> bool
+pub fn cells_have(cells: &[Cell], v: u8) -> bool
     ensures { result ≡ member v (variables_of (entries_of cells.now)) }
 {
     cells.iter().any(|c| cell_names(c, v))
@@ -273,7 +273,7 @@ impl Schema {
     }
 
     // Whether the first n sets are nonempty sets of a relation's columns, and those after them empty.
-    fn sets_good(self, relation: u8, sets: &[u8], n: usize) -> bool
+    pub fn sets_good(self, relation: u8, sets: &[u8], n: usize) -> bool
         ensures { result ≡ in_use n (good_join_set (widths_in self) relation) is_zero sets.now }
     {
         in_use(
@@ -309,7 +309,7 @@ impl Schema {
     }
 
     // Whether a row names a known relation and has good entries, one a column, and no others.
-    fn row_good(self, relation: u8, cells: &[Cell]) -> bool
+    pub fn row_good(self, relation: u8, cells: &[Cell]) -> bool
         ensures { result ≡ good_row (widths_in self) relation cells.now }
     {
         relation < self.relations && cells_good(cells, self.width_of(relation) as usize)
@@ -318,7 +318,7 @@ impl Schema {
     // Whether each row is good, row r having the 8 cells from 8 * r on.
     // Kept as it is: `named.iter().zip(cells.chunks_exact(8)).all(..)` was tried, and its proof did not close: no `YieldsList` lemma of std is for chunks.
     // That the cells are as many as 8 a row is a fact of two slices, which come from one array each.
-    fn rows_good(self, named: &[u8], cells: &[Cell]) -> bool
+    pub fn rows_good(self, named: &[u8], cells: &[Cell]) -> bool
         requires { 8 * length named.now ≤ length cells.now }
         ensures { result ≡ good_rows (widths_in self) named.now cells.now }
     {
@@ -381,7 +381,7 @@ impl Schema {
     }
 
     // Whether a filled place holds a good query with a safe head, or a vacant one holds nothing.
-    fn place_good(self, p: Place) -> bool
+    pub fn place_good(self, p: Place) -> bool
         ensures { result ≡ good_place (widths_in self) p }
     {
         if p.filled {

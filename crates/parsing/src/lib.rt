@@ -38,7 +38,7 @@ fn word32(s: &[u8], at: usize) -> u32
 }
 
 // A byte, if it is within limits.
-fn read_byte(s: &[u8], low: u8, high: u8) -> Option<(u8, &[u8])>
+pub fn read_byte(s: &[u8], low: u8, high: u8) -> Option<(u8, &[u8])>
     ensures { reading_of result ≡ get_byte (between low high) s.now }
 {
     let (byte, rest) = s.split_first()?;

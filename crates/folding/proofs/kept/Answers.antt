@@ -86,12 +86,15 @@ loop-i-preserved c =
     )
 
 pub returns : goal.returns
-returns c schema narrow good =
-    let l = c.loop-i in
-    let t = c.from_query-target in
-    let none : l.i ≡ 0 = let z : l.i ≤ 0 = c.loop-i-test.false in omega arith in
-    trying-end c.consistent-open.result c.table.new.table c.args.q.size c.distinct.result l.state.left
-    (subst (Trying c.consistent-open.result c.table.new.table c.args.q.size c.distinct.result l.state.left) none l.invariant.2)
-    c.args.q c.codes_of-from.result c.codes_of-to.result c.domains-domain.result (made (goal.at.returns c).After-table) c.consistent-open.ensures refl
-    (subst (λ (t : Tableau). Marks c.args.q.size c.distinct.result (λ d. Repeats c.codes_of-to.result t.relations d → ⊥)) t.ensures c.distinct.ensures)
-    schema narrow good
+returns c = (
+  λ schema narrow good.
+      let l = c.loop-i in
+      let t = c.from_query-target in
+      let none : l.i ≡ 0 = let z : l.i ≤ 0 = c.loop-i-test.false in omega arith in
+      trying-end c.consistent-open.result c.table.new.table c.args.q.size c.distinct.result l.state.left
+      (subst (Trying c.consistent-open.result c.table.new.table c.args.q.size c.distinct.result l.state.left) none l.invariant.2)
+      c.args.q c.codes_of-from.result c.codes_of-to.result c.domains-domain.result (made (goal.at.returns c).After-table) c.consistent-open.ensures refl
+      (subst (λ (t : Tableau). Marks c.args.q.size c.distinct.result (λ d. Repeats c.codes_of-to.result t.relations d → ⊥)) t.ensures c.distinct.ensures)
+      schema narrow good,
+  c.loop-i.invariant.1,
+)
