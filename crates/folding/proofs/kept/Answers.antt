@@ -85,16 +85,16 @@ loop-i-preserved c =
           (subst (Trying c.consistent-open.result c.table.new.table c.args.q.size c.distinct.result l.state.left) next l.invariant.2) c.tried-state.ensures,
     )
 
-pub returns : goal.returns
-returns c = (
-  λ schema narrow good.
-      let l = c.loop-i in
-      let t = c.from_query-target in
-      let none : l.i ≡ 0 = let z : l.i ≤ 0 = c.loop-i-test.false in omega arith in
-      trying-end c.consistent-open.result c.table.new.table c.args.q.size c.distinct.result l.state.left
-      (subst (Trying c.consistent-open.result c.table.new.table c.args.q.size c.distinct.result l.state.left) none l.invariant.2)
-      c.args.q c.codes_of-from.result c.codes_of-to.result c.domains-domain.result (made (goal.at.returns c).After-table) c.consistent-open.ensures refl
-      (subst (λ (t : Tableau). Marks c.args.q.size c.distinct.result (λ d. Repeats c.codes_of-to.result t.relations d → ⊥)) t.ensures c.distinct.ensures)
-      schema narrow good,
-  c.loop-i.invariant.1,
-)
+pub returns-clause-value : goal.returns-clause-value
+returns-clause-value c schema narrow good =
+    let l = c.loop-i in
+    let t = c.from_query-target in
+    let none : l.i ≡ 0 = let z : l.i ≤ 0 = c.loop-i-test.false in omega arith in
+    trying-end c.consistent-open.result c.table.new.table c.args.q.size c.distinct.result l.state.left
+    (subst (Trying c.consistent-open.result c.table.new.table c.args.q.size c.distinct.result l.state.left) none l.invariant.2)
+    c.args.q c.codes_of-from.result c.codes_of-to.result c.domains-domain.result (made (goal.at.returns-clause-value c).After-table) c.consistent-open.ensures refl
+    (subst (λ (t : Tableau). Marks c.args.q.size c.distinct.result (λ d. Repeats c.codes_of-to.result t.relations d → ⊥)) t.ensures c.distinct.ensures)
+    schema narrow good
+
+pub returns-clause-in_bounds : goal.returns-clause-in_bounds
+returns-clause-in_bounds c = c.loop-i.invariant.1
