@@ -4,11 +4,14 @@
 ghost use Rattle.std.specs.Prelude.{◌≡◌, ◌-◌, ◌≤◌, ◌++◌, length, replicate};
 
 // Some elements in an array that has room for them, blank after them.
+// Kept as it is: a loop, since the library's copy of a length that is not known calls `memmove`, which an archive for C would need from outside.
 pub fn padded<T: Copy, const N: usize>(xs: &[T], blank: T) -> [T; N]
     requires { length xs.now ≤ N }
     ensures { result ≡ xs.now ++ replicate (N - length xs.now) blank }
 {
     let mut all = [blank; N];
-    all[..xs.len()].copy_from_slice(xs);
+    for (i, &x) in xs.iter().enumerate() {
+        all[i] = x;
+    }
     all
 }

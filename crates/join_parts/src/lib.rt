@@ -92,12 +92,16 @@ fn chain(
 }
 
 // Puts the n words from `at` on before word `end` of the buffer.
+// Kept as it is: a loop, since the library's copy of a length that is not known calls `memmove`, which an archive for C would need from outside.
 fn put(words: &[u32], at: usize, n: usize, end: usize, buffer: &mut [u32])
     requires { (at + n ≤ length words.now) × (n ≤ end) × (end ≤ length buffer.old) }
     ensures buffer_len_unchanged { length buffer.new ≡ length buffer.old }
     ensures put { drop (end - n) buffer.new ≡ take n (drop at words.now) ++ drop end buffer.old }
 {
-    buffer[end - n..end].copy_from_slice(&words[at..at + n]);
+    let start = end - n;
+    for i in 0..n {
+        buffer[start + i] = words[at + i];
+    }
 }
 
 // Copies the rows of part b, as they are written, to the end of the buffer, from the last to the first; they begin at the word that is returned.
