@@ -1,6 +1,7 @@
 // A table in the making, cut to the candidates that meet in two columns: that have one code there, where their rows share a variable.
 // Kept as it is: source and target are slices, as in `agree`, and their lengths stand in `Laid` beside the counts, a clause that arrays would leave in each contract.
 ghost use Rattle.std.specs.Prelude.{◌≡◌, ◌↔◌, ℕ, ◌+◌, ◌≤◌, ◌<◌, get_or, length};
+ghost use Rattle.std.specs.Option.{ForSome};
 ghost use Rattle.consistency.specs.internal.Solution.{Bit};
 ghost use Rattle.candidates.specs.internal.Candidates.{Marks, row_start, image_start, candidates_of, Laid};
 ghost use Rattle.candidates.specs.internal.Sharing.{Column, Meets, Alike, Cut, Joins};
@@ -33,10 +34,30 @@ fn alike(target: &[u32], count: usize, i: usize, j: usize) -> [u32; 24]
     all
 }
 
+// The masks of `alike`, made where rows r and q, neither of them the head, are the first to want them.
+fn make_masks(
+    masks: &mut Option<[u32; 24]>,
+    target: &[u32],
+    size: usize,
+    count: usize,
+    i: usize,
+    j: usize,
+    r: usize,
+    q: usize,
+)
+    requires laid { (length target.now ≡ 200) × (count ≤ 24) × (i < 8) × (j < 8) }
+    requires alike { ForSome masks.old (Alike target.now count i j) }
+    ensures { ForSome masks.new (Alike target.now count i j) }
+{
+    if r < size && q < size && masks.is_none() {
+        *masks = Some(alike(target, count, i, j));
+    }
+}
+
 // The candidates of row q that have in column j the code that candidate d of row r has in column i: as `masks` says of rows, and else looked up.
 fn meeting(
     target: &[u32],
-    masks: &[u32; 24],
+    masks: &Option<[u32; 24]>,
     size: usize,
     count: usize,
     i: usize,
@@ -46,22 +67,24 @@ fn meeting(
     q: usize,
 ) -> u32
     requires laid { (length target.now ≡ 200) × (count ≤ 24) × (i < 8) × (j < 8) × (r ≤ size) × (d < candidates_of size count r) × (q ≤ size) }
-    requires alike { Alike target.now count i j masks.now }
+    requires alike { ForSome masks.now (Alike target.now count i j) }
     ensures { (e : ℕ) → e < candidates_of size count q → (Bit result e ↔ Meets target.now size i j r d q e) }
 {
     if r < size && q < size {
-        return masks[d];
+        if let Some(masks) = masks {
+            return masks[d];
+        }
     }
     with_code(target, size, count, q, j, target[image_at(size, r, d) + i])
 }
 
 // The table cut to candidates of rows r and q that meet in columns i and j.
-// Kept as it is: what it is given stays apart, here and below, as in `consistency`: each function reads others of them, and the masks and the codes are made
-// once for all rows.
+// Kept as it is: what it is given stays apart, here and below, as in `consistency`: each function reads others of them, and the codes and, where they are
+// wanted, the masks are made once for all rows.
 fn cut_pair(
     table: &mut [u32; 4056],
     target: &[u32],
-    masks: &[u32; 24],
+    masks: &Option<[u32; 24]>,
     size: usize,
     count: usize,
     i: usize,
@@ -70,7 +93,7 @@ fn cut_pair(
     q: usize,
 )
     requires laid { (length target.now ≡ 200) × (size ≤ 12) × (count ≤ 24) × (i < 8) × (j < 8) × (r ≤ size) × (q ≤ size) }
-    requires alike { Alike target.now count i j masks.now }
+    requires alike { ForSome masks.now (Alike target.now count i j) }
     ensures { Cut size count (λ r' d q' e. q' ≡ q → r' ≡ r → Meets target.now size i j r' d q' e) table.old table.new }
 {
     // Kept as it is: a mask's place is made of three numbers, and so is the mask.
@@ -85,7 +108,7 @@ fn cut_row(
     source: &[u32],
     target: &[u32],
     codes: &[u32; 13],
-    masks: &[u32; 24],
+    masks: &mut Option<[u32; 24]>,
     size: usize,
     count: usize,
     i: usize,
@@ -94,8 +117,9 @@ fn cut_row(
 )
     requires laid { Laid source.now target.now size count × (i < 8) × (j < 8) × (r ≤ size) }
     requires column { Column source.now size j codes.now }
-    requires alike { Alike target.now count i j masks.now }
-    ensures { Cut size count (λ r' d q e. r' ≡ r → Joins source.now target.now size i j r' d q e) table.old table.new }
+    requires alike { ForSome masks.old (Alike target.now count i j) }
+    ensures cut { Cut size count (λ r' d q e. r' ≡ r → Joins source.now target.now size i j r' d q e) table.old table.new }
+    ensures alike { ForSome masks.new (Alike target.now count i j) }
 {
     let code = source[row_at(size, r) + i];
     let Entry::Variable(_) = Entry::from(code) else {
@@ -104,6 +128,7 @@ fn cut_row(
     // Kept as it is: q is a row's number and indexes nothing here.
     for q in 0..size + 1 {
         if other_has(codes, code, r, q) {
+            make_masks(masks, target, size, count, i, j, r, q);
             cut_pair(table, target, masks, size, count, i, j, r, q);
         }
     }
@@ -123,9 +148,11 @@ pub fn cut_columns(
     ensures { Cut size count (Joins source.now target.now size i j) table.old table.new }
 {
     let codes = column(source, size, j);
-    let masks = alike(target, count, i, j);
+    let mut masks = None;
     // Kept as it is: r is a row's number and indexes nothing here.
     for r in 0..size + 1 {
-        cut_row(table, source, target, &codes, &masks, size, count, i, j, r);
+        cut_row(
+            table, source, target, &codes, &mut masks, size, count, i, j, r,
+        );
     }
 }

@@ -3,11 +3,14 @@
 use borrow.Author.Rules.{rules}
 use mathlib.Core.Path.{◌≡◌, sym, ap, ◌∙◌, subst, subst₂}
 use mathlib.Core.Bool.{false≢true}
+use mathlib.Core.List.{List}
 use Prim.Native.Nat.{ℕ, ◌+◌, ◌≤◌}
 use lib.ListN.{get_or}
+use Rattle.std.specs.Option.{ForSome}
+use Rattle.std.specs.Prelude.{Option}
 use Rattle.query.proofs.Codes.{code-variable}
 use Rattle.candidates.specs.internal.Candidates.{row_start}
-use Rattle.candidates.specs.internal.Sharing.{Cut, Shares, Meets, Joins}
+use Rattle.candidates.specs.internal.Sharing.{Alike, Cut, Shares, Meets, Joins}
 use Rattle.candidates.proofs.Cutting.{cut-none, cut_as, cut-more}
 use Rattle.candidates.proofs.cuts.cut_row.Goals as goal
 use Rattle.candidates.proofs.cuts.cut_row.Goals.{then-other_has, else-other_has}
@@ -40,7 +43,15 @@ loop-q-preserved c =
           let here : Share a.r l.q = subst₂ Share t s shared in
           absurd (false≢true (sym w.if-other_has.false ∙ c.other_has.ensures.1 (here.0, same ∙ here.2 ∙ sym code)))))
     ]
+    in
+    let Made : Option (List ℕ) → Type 0 = λ masks. ForSome masks (Alike a.target.now a.count a.i a.j) in
+    let made : Made c.if-other_has.masks =
+    elim c.if-other_has.branch [
+      | then-other_has w ↦ subst Made (sym w.masks-is) w.make_masks.ensures
+      | else-other_has w ↦ subst Made (sym w.masks-is) l.invariant.2
+    ]
     in (
       search rules,
       cut-more a.size a.count (λ r d q. q) (λ r d q e. r ≡ a.r → Join r d q e) l.q a.table.now l.table c.if-other_has.table l.invariant.1 step,
+      made,
     )
