@@ -141,11 +141,6 @@ module _ (r : Record) (before after : List ℕ) (o : Result Record Refusal) wher
   read-again-alone shape n says left is m writes =
       is ∙ ap (λ (l : List ℕ). read_file (take n l)) left ∙ reads-gives _ r (read_back r before n shape says)
 
--- A file that is refused comes back in no way
-pub not-read : (file before after : List ℕ) (w : Result ℕ Refusal) (n : ℕ) → read_file file ≡ refused n → FileComesBack file before after w
-not-read file before after w n is r reads room =
-    absurd (refused-gives (ap (λ (p : Reply (Unit {0}) × Record). p.0) (ap read_outcome (sym is) ∙ reads)))
-
 -- What is written lies in the buffer
 pub inside : (r : Record) (before after : List ℕ) (n : ℕ) → written r before ≡ gives n → after ≡ after_writing r before → n ≤ length after
 inside r before after n says left =
