@@ -66,12 +66,16 @@ kept-end schema q left is r has = record {
   view = λ j. record { head = has.head j; rows = (has.rows ∙ is) j };
 }
 
--- which stands for a result of reduction
-pub kept-reduces : (schema : List ℕ) (q r : Query) → IsKeptOf schema q r → Reduction [] (query_of schema q) (query_of schema r)
+-- A stored query stands for a result of reduction of another
+abbrev pub Reduces : List ℕ → Query → Query → Type 0
+Reduces schema q r = Reduction [] (query_of schema q) (query_of schema r)
+
+-- as one with the rows that are kept does
+pub kept-reduces : (schema : List ℕ) (q r : Query) → IsKeptOf schema q r → Reduces schema q r
 kept-reduces schema q r p = subst (λ (x : theory.Query). Reduction [] (query_of schema q) x) (sym p.view) (kept-result (query_of schema q))
 
--- Of a stored query that stands for a result of reduction of another
-module _ (schema : List ℕ) (q r : Query) (p : Reduction [] (query_of schema q) (query_of schema r)) where
+-- Then
+module _ (schema : List ℕ) (q r : Query) (p : Reduces schema q r) where
   -- the answers are the same
   pub core-answers : (D : Database) (t : List ℕ) → Answer D (query_of schema q) t ↔ Answer D (query_of schema r) t
   core-answers D t = reduction-answers [] (query_of schema q) (query_of schema r) p D (λ d at. absurd (Memᴰ.not-nil at)) t
