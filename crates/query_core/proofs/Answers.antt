@@ -1,4 +1,4 @@
--- The core of a query has the answers of the query, on every database. It is a result of reduction under no dependencies.
+-- With the rows that are kept a query has its answers, on every database. It is a result of reduction under no dependencies.
 -- Assumes nothing.
 use Rattle.std.specs.Prelude.{◌≡◌, ℕ, ◌<◌, ◌↔◌, true, List, [], length}
 use mathlib.Core.Path.{refl, sym, ap, subst, ◌∙◌}
@@ -18,19 +18,20 @@ use Rattle.theory.specs.Answer.{Answer}
 use Rattle.theory.specs.Chase.{chase, chase_for, chase_on, step, first_broken, first_found}
 use Rattle.minimization.specs.Reduction.{Reduction}
 use Rattle.minimization.proofs.Reduction.{reduction-answers, reduction-wellformed}
-use Rattle.minimization.specs.Kept.{core_of, sorted}
-use Rattle.minimization.proofs.Kept.{reduced-reduction, kept-some}
+use Rattle.minimization.specs.Kept.{kept, sorted}
+use Rattle.minimization.proofs.Kept.{kept-reduction, kept-some}
 use Rattle.folding.specs.internal.Kept.{marked, IsKept}
-use Rattle.query_core.specs.internal.CoreOf.{IsCoreOf}
-use Rattle.query_core.specs.internal.Rows.{HasRows}
+use Rattle.query_core.specs.internal.CoreOf.{IsCoreOf, IsKeptOf}
+use Rattle.query_core.specs.internal.Rows.{HasRows, HasRowsInPlace}
 
 -- Without dependencies the chase rests at once
 chase-nothing : (q : theory.Query) → (chase [] q).query ≡ q
 unfolding chase chase_for chase_on step first_broken first_found
 chase-nothing q = refl
 
-core-reduction : (q : theory.Query) → Reduction [] q (core_of q)
-core-reduction q = subst (λ (x : theory.Query). Reduction [] q (core_of x)) (chase-nothing q) (reduced-reduction [] q)
+-- so the rows that are kept are a result of reduction
+kept-result : (q : theory.Query) → Reduction [] q (record { head = q.head; rows = kept q })
+kept-result q = subst (λ (x : theory.Query). Reduction [] q (record { head = x.head; rows = kept x })) (chase-nothing q) (kept-reduction [] q)
 
 -- ---- the core of a stored query
 
@@ -57,16 +58,29 @@ core-end schema q left is r has = record {
   view = λ j. record { head = has.head j; rows = (has.rows ∙ ap sorted is) j };
 }
 
-module _ (schema : List ℕ) (q r : Query) (p : IsCoreOf schema q r) where
-  -- The answers are the same
-  pub core-answers : (D : Database) (t : List ℕ) → Answer D (query_of schema q) t ↔ Answer D (query_of schema r) t
-  core-answers D t =
-      subst (λ (x : theory.Query). Answer D (query_of schema q) t ↔ Answer D x t) (sym p.view)
-      (reduction-answers [] (query_of schema q) (core_of (query_of schema q)) (core-reduction (query_of schema q)) D (λ d at. absurd (Memᴰ.not-nil at)) t)
+-- and with them as they stand it is what is kept of it
+pub kept-end : (schema : List ℕ) (q : Query) (left : ℕ) → IsKept schema q left → (r : Query) → HasRowsInPlace schema q left r → IsKeptOf schema q r
+kept-end schema q left is r has = record {
+  good = has.good;
+  same-arity = has.same-arity;
+  view = λ j. record { head = has.head j; rows = (has.rows ∙ is) j };
+}
 
-  -- Each head variable still occurs in a row
+-- A stored query stands for a result of reduction of another
+abbrev pub Reduces : List ℕ → Query → Query → Type 0
+Reduces schema q r = Reduction [] (query_of schema q) (query_of schema r)
+
+-- as one with the rows that are kept does
+pub kept-reduces : (schema : List ℕ) (q r : Query) → IsKeptOf schema q r → Reduces schema q r
+kept-reduces schema q r p = subst (λ (x : theory.Query). Reduction [] (query_of schema q) x) (sym p.view) (kept-result (query_of schema q))
+
+-- Then
+module _ (schema : List ℕ) (q r : Query) (p : Reduces schema q r) where
+  -- the answers are the same
+  pub core-answers : (D : Database) (t : List ℕ) → Answer D (query_of schema q) t ↔ Answer D (query_of schema r) t
+  core-answers D t = reduction-answers [] (query_of schema q) (query_of schema r) p D (λ d at. absurd (Memᴰ.not-nil at)) t
+
+  -- and each head variable still occurs in a row
   pub core-safe : WellFormed schema (query_of schema q) → (v : ℕ) → v ∈ variables_of (query_of schema r).head
       → v ∈ variables_of (row_entries (query_of schema r).rows)
-  core-safe well =
-      subst (λ (x : theory.Query). (v : ℕ) → v ∈ variables_of x.head → v ∈ variables_of (row_entries x.rows)) (sym p.view)
-      (reduction-wellformed schema [] (query_of schema q) (core_of (query_of schema q)) well (core-reduction (query_of schema q))).head-safe
+  core-safe well = (reduction-wellformed schema [] (query_of schema q) (query_of schema r) well p).head-safe
