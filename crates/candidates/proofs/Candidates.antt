@@ -18,6 +18,10 @@ few-candidates size count r h = go (eqb r size)
     go true = omega arith
     go false = h
 
+-- and a row that is not the head has `count`
+pub row-candidates : (size count r : ℕ) → r < size → candidates_of size count r ≡ count
+row-candidates size count r h = ap (λ (t : Bool). cond t 1 count) (ne_eqb r size (λ e. let z : r ≡ size = e in omega arith))
+
 -- Where the codes of a row and of a candidate start
 pub head-start : (size : ℕ) → row_start size size ≡ 96
 head-start size = ap (λ (t : Bool). cond t 96 (8 * size)) (eq-eqb size size refl)

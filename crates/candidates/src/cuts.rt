@@ -7,7 +7,7 @@ ghost use Rattle.candidates.specs.internal.Candidates.{Marks, row_start, image_s
 ghost use Rattle.candidates.specs.internal.Sharing.{Column, Meets, Alike, Cut, Joins};
 
 use crate::marks::marks_where;
-use crate::shared::{column, other_has};
+use crate::shared::{column, no_other_has, other_has};
 use crate::table::{candidates, image_at, row_at};
 use query::Entry;
 
@@ -54,31 +54,7 @@ fn make_masks(
     }
 }
 
-// The candidates of row q that have in column j the code that candidate d of row r has in column i: as `masks` says of rows, and else looked up.
-fn meeting(
-    target: &[u32],
-    masks: &Option<[u32; 24]>,
-    size: usize,
-    count: usize,
-    i: usize,
-    j: usize,
-    r: usize,
-    d: usize,
-    q: usize,
-) -> u32
-    requires laid { (length target.now ≡ 200) × (count ≤ 24) × (i < 8) × (j < 8) × (r ≤ size) × (d < candidates_of size count r) × (q ≤ size) }
-    requires alike { ForSome masks.now (Alike target.now count i j) }
-    ensures { (e : ℕ) → e < candidates_of size count q → (Bit result e ↔ Meets target.now size i j r d q e) }
-{
-    if r < size && q < size {
-        if let Some(masks) = masks {
-            return masks[d];
-        }
-    }
-    with_code(target, size, count, q, j, target[image_at(size, r, d) + i])
-}
-
-// The table cut to candidates of rows r and q that meet in columns i and j.
+// The table cut to candidates of rows r and q that meet in columns i and j: as `masks` says of rows, and else looked up.
 // Kept as it is: what it is given stays apart, here and below, as in `consistency`: each function reads others of them, and the codes and, where they are
 // wanted, the masks are made once for all rows.
 fn cut_pair(
@@ -96,9 +72,19 @@ fn cut_pair(
     requires alike { ForSome masks.now (Alike target.now count i j) }
     ensures { Cut size count (λ r' d q' e. q' ≡ q → r' ≡ r → Meets target.now size i j r' d q' e) table.old table.new }
 {
+    if r < size && q < size {
+        if let Some(masks) = masks {
+            // Kept as it is: d is a candidate's number, and a mask's place is made of three numbers.
+            for d in 0..count {
+                table[(r * 24 + d) * 13 + q] &= masks[d];
+            }
+            return;
+        }
+    }
     // Kept as it is: a mask's place is made of three numbers, and so is the mask.
     for d in 0..candidates(size, count, r) {
-        table[(r * 24 + d) * 13 + q] &= meeting(target, masks, size, count, i, j, r, d, q);
+        let code = target[image_at(size, r, d) + i];
+        table[(r * 24 + d) * 13 + q] &= with_code(target, size, count, q, j, code);
     }
 }
 
@@ -125,6 +111,9 @@ fn cut_row(
     let Entry::Variable(_) = Entry::from(code) else {
         return;
     };
+    if no_other_has(codes, code, r) {
+        return;
+    }
     // Kept as it is: q is a row's number and indexes nothing here.
     for q in 0..size + 1 {
         if other_has(codes, code, r, q) {

@@ -53,3 +53,18 @@ pub fn other_has(codes: &[u32; 13], code: u32, r: usize, q: usize) -> bool
 {
     r != q && codes[q] == code
 }
+
+// Whether no row but row r has the code `code`, among the codes of a column. No code of a variable is 0.
+// Kept as it is: all 13 are compared at once, as in `agree::fixes`.
+pub fn no_other_has(codes: &[u32; 13], code: u32, r: usize) -> bool
+    requires { (r < 13) × (0 < code) }
+    ensures { Tells result ((q : ℕ) → q < 13 → (r ≡ q → ⊥) → get_or codes.now q 0 ≡ code → ⊥) }
+{
+    let mut others = *codes;
+    others[r] = 0;
+    let mut none = true;
+    for q in 0..13 {
+        none &= others[q] != code;
+    }
+    none
+}

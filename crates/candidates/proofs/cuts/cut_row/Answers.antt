@@ -5,6 +5,7 @@ use mathlib.Core.Path.{◌≡◌, sym, ap, ◌∙◌, subst, subst₂}
 use mathlib.Core.Bool.{false≢true}
 use mathlib.Core.List.{List}
 use Prim.Native.Nat.{ℕ, ◌+◌, ◌≤◌}
+use native.Mathlib.Omega.{arith}
 use lib.ListN.{get_or}
 use Rattle.std.specs.Option.{ForSome}
 use Rattle.std.specs.Prelude.{Option}
@@ -55,3 +56,9 @@ loop-q-preserved c =
       cut-more a.size a.count (λ r d q. q) (λ r d q e. r ≡ a.r → Join r d q e) l.q a.table.now l.table c.if-other_has.table l.invariant.1 step,
       made,
     )
+
+pub returns-clause-cut : goal.returns-clause-cut
+returns-clause-cut c r d q e hr hd hq he =
+    let past : c.args.size + 1 ≤ c.loop-q.q = c.loop-q-test.false in
+    let cut = c.loop-q.invariant.1 r d q e hr hd hq he in
+    ((λ at. let m = cut.0 at in (m.0, m.1 (omega arith))), (λ w. cut.1 (w.0, (λ h. w.1))))
